@@ -1,0 +1,212 @@
+-- Depth-first resolution (ISO 13211-1, 7.7). A run takes the first item of its list again and again; each item taken is one step.
+use Rattle.std.specs.Prelude.{ℕ, zero, suc, ◌+◌, min, max, Bool, true, false, ◌||◌, ◌&&◌, ◌==◌, List, [], ◌∷◌, ◌++◌, nat_lt, if◌then◌else◌, Option, Some, None, bytes_eq}
+use Rattle.term_core.specs.Tree.{Tree, variable, integer, atom, compound, arity}
+use Rattle.term_core.specs.Variables.{renamed, numbered, first_free}
+use Rattle.term_core.specs.Substitution.{apply}
+use Rattle.term_core.specs.Unifier.{mgu}
+use Rattle.solve_model.specs.Goals.{Indicator, Row, Succeeds, Fails, Both, Call, Predicate, row_of, Ready, Runs, Throws, ready, existence_error}
+
+-- a substitution: for each variable bound, its number and its term
+abbrev pub Bindings : Type 0
+Bindings = List (ℕ × Tree)
+
+-- a clause, whose variables are numbered from 0 below `vars`
+pub record Clause : Type 0 where
+  pub head : Tree
+  pub body : Tree
+  pub vars : ℕ
+
+-- what stays the same in a run: the clauses in the order of the text, the replies to prompts, and the limit of steps
+pub record World : Type 0 where
+  pub clauses : List Clause
+  pub replies : List Tree
+  pub limit : ℕ
+
+-- What is left to do. In `Goal t l o` a cut goes back to the level l, and o tells whether an alternative is left there.
+pub data Item : Type 0 where
+  Goal : Tree → ℕ → Bool → Item
+  -- a condition has succeeded: its alternatives above the level are dropped
+  Commit : ℕ → Bool → Item
+  -- the goal under a catch of this level has succeeded
+  ExitCatch : ℕ → Item
+
+-- How a run ends.
+pub data End : Type 0 where
+  Failed : End
+  -- it failed after a cut back to this level
+  Cut : ℕ → End
+  -- a ball was thrown, to the catch of this level; 0 where none is active
+  Thrown : Tree → ℕ → End
+  -- it waits for a reply
+  Waits : End
+  -- the steps are used up
+  Spent : End
+  -- it called a predicate that reaches outside
+  Outside : Indicator → End
+
+pub data Mark : Type 0 where
+  -- an answer, and whether an alternative is left
+  Answered : Bindings → Bool → Mark
+  Told : Tree → Mark
+  Asked : Tree → Mark
+
+-- where a branch stands: its substitution, the next variable and the next level
+pub record Place : Type 0 where
+  pub subst : Bindings
+  pub next : ℕ
+  pub level : ℕ
+
+-- what has been used: steps and replies
+pub record Used : Type 0 where
+  pub steps : ℕ
+  pub replies : ℕ
+
+-- what a run gives: its marks, each with the steps made before it, what was used in the end, and how it ended
+pub record Ran : Type 0 where
+  pub marks : List (ℕ × Mark)
+  pub used : Used
+  pub end : End
+
+-- a run of items at a place; the Bool tells whether an alternative is left beside it
+abbrev pub Runner : Type 0
+Runner = List Item → Place → Bool → Used → Ran
+
+-- no mark
+abbrev pub ends : End → Used → Ran
+ends e u = record { marks = []; used = u; end = e }
+
+-- one mark, then the rest
+abbrev pub marked : Mark → Used → Ran → Ran
+marked m u r = record r { marks = (u.steps, m) ∷ r.marks }
+
+-- a run, and then what is done at its end
+abbrev pub after : Ran → (End → Used → Ran) → Ran
+after a next = let b : Ran = next a.end a.used in record b { marks = a.marks ++ b.marks }
+
+-- an alternative: its items and its place
+pub record Branch : Type 0 where
+  pub items : List Item
+  pub place : Place
+
+-- What is done at the end of a run, by cases. Every other end passes through.
+
+-- the next alternative is run where this one failed
+abbrev pub at_failed : (Used → Ran) → End → Used → Ran
+at_failed f Failed u = f u
+at_failed f e u = ends e u
+
+-- a cut of this level stops here: it is the failure of a call
+abbrev pub at_cut : ℕ → End → Used → Ran
+at_cut d (Cut l) u = ends (if l == d then Failed else Cut l) u
+at_cut d e u = ends e u
+
+-- after a cut back to l: failure drops the alternatives of l too
+abbrev pub cut_to : ℕ → End → Used → Ran
+cut_to l Failed u = ends (Cut l) u
+cut_to l (Cut m) u = ends (Cut (min l m)) u
+cut_to l e u = ends e u
+
+abbrev pub some_left : List Branch → Bool
+some_left [] = false
+some_left (b ∷ bs) = true
+
+-- Alternatives are run in order, as long as they fail. Each but the last has one left beside it.
+unfoldable pub in_order : Runner → List Branch → Bool → Used → Ran
+in_order run [] o u = ends Failed u
+in_order run (b ∷ bs) o u = after (run b.items b.place (o || some_left bs) u) (at_failed (in_order run bs o))
+
+-- the innermost level of a catch that is active in these items, and 0 where there is none
+abbrev pub catcher : List Item → ℕ
+catcher [] = 0
+catcher (ExitCatch l ∷ is) = l
+catcher (i ∷ is) = catcher is
+
+-- a ball thrown before these items: a copy of it
+abbrev pub throws : Tree → List Item → Used → Ran
+throws t is u = ends (Thrown (numbered t) (catcher is)) u
+
+-- goes on with a goal that is ready, or throws
+abbrev pub if_ready : Ready → List Item → Used → (Tree → Ran) → Ran
+if_ready (Runs t) is u go = go t
+if_ready (Throws b) is u go = throws b is u
+
+-- n levels further
+abbrev pub deeper : ℕ → Place → Place
+deeper n p = record p { level = p.level + n }
+
+-- whether a clause's head has this indicator
+abbrev pub is_for : Indicator → Tree → Bool
+is_for i (atom f) = bytes_eq i.name f && i.arity == 0
+is_for i (compound f ts) = bytes_eq i.name f && i.arity == arity ts
+is_for i (variable n) = false
+is_for i (integer z) = false
+
+-- the clauses of a predicate, in order
+unfoldable pub clauses_of : Indicator → List Clause → List Clause
+clauses_of i [] = []
+clauses_of i (c ∷ cs) = if is_for i c.head then c ∷ clauses_of i cs else clauses_of i cs
+
+-- a clause's body before the rest, under the substitution that unifies the renamed head with the goal
+abbrev pub body_branch : Clause → List Item → Place → Bool → Bindings → Branch
+body_branch c is p o s = record {
+  items = Goal (renamed p.next c.body) p.level o ∷ is;
+  place = record { subst = s; next = p.next + c.vars; level = p.level + 1 };
+}
+
+-- the clauses whose renamed heads unify with the goal now, as alternatives
+unfoldable pub entered : List Clause → Tree → List Item → Place → Bool → List Branch
+entered [] t is p o = []
+entered (c ∷ cs) t is p o =
+    elim (mgu ((t, renamed p.next c.head) ∷ []) p.subst) [
+      | None ↦ entered cs t is p o
+      | Some s ↦ body_branch c is p o s ∷ entered cs t is p o
+    ]
+
+-- a call of a predicate by its clauses, in which a cut is local; without clauses it is unknown
+abbrev pub called : Runner → List Clause → Indicator → Tree → List Item → Place → Bool → Used → Ran
+called run [] i t is p o u = throws (existence_error i) is u
+called run (c ∷ cs) i t is p o u = after (in_order run (entered (c ∷ cs) t is p o) o u) (at_cut p.level)
+
+-- a goal as by `call`: its cut is local
+abbrev pub locally : Runner → Tree → List Item → Place → Bool → Used → Ran
+locally run g is p o u = after (run (Goal g p.level o ∷ is) (deeper 1 p) o u) (at_cut p.level)
+
+-- one goal, by its row of the table
+unfoldable pub goal_step : World → Runner → Row → ℕ → Bool → List Item → Place → Bool → Used → Ran
+goal_step w run Succeeds l cut is p o u = run is p o u
+goal_step w run Fails l cut is p o u = ends Failed u
+goal_step w run (Both a b) l cut is p o u = run (Goal a l cut ∷ Goal b l cut ∷ is) p o u
+goal_step w run (Call g) l cut is p o u = if_ready (ready (apply p.subst g)) is u (λ h. locally run h is p o u)
+goal_step w run (Predicate i t) l cut is p o u = called run (clauses_of i w.clauses) i t is p o u
+
+unfoldable pub item_step : World → Runner → Item → List Item → Place → Bool → Used → Ran
+item_step w run (Goal t l cut) is p o u = goal_step w run (row_of t) l cut is p o u
+item_step w run (Commit l cut) is p o u = after (run is p cut u) (cut_to l)
+item_step w run (ExitCatch l) is p o u = run is p o u
+
+abbrev pub one_more : Used → Used
+one_more u = record u { steps = suc u.steps }
+
+-- one item is taken, where a step is left
+unfoldable pub taken : World → Runner → Item → List Item → Place → Bool → Used → Ran
+taken w run i is p o u = elim (nat_lt u.steps w.limit) [ false ↦ ends Spent u | true ↦ item_step w run i is p o (one_more u) ]
+
+-- A run in which no branch is longer than `depth`: the limit itself is deep enough.
+unfoldable pub run : World → ℕ → Runner
+run w depth [] p o u = marked (Answered p.subst o) u (ends Failed u)
+run w zero (i ∷ is) p o u = ends Spent u
+run w (suc depth) (i ∷ is) p o u = taken w (run w depth) i is p o u
+
+abbrev pub unused : Used
+unused = record { steps = 0; replies = 0 }
+
+-- where a query begins: its own variables are those of its goal and template
+abbrev pub start : (goal template : Tree) → Place
+start g t = record { subst = []; next = max (first_free g) (first_free t); level = 2 }
+
+-- a query: its goal is run as by `call`, without a step for that
+unfoldable pub query : World → (goal template : Tree) → Ran
+query w g t = elim (ready g) [
+  | Runs h ↦ after (run w w.limit (Goal h 1 false ∷ []) (start g t) false unused) (at_cut 1)
+  | Throws b ↦ ends (Thrown (numbered b) 0) unused
+]

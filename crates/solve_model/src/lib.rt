@@ -1,0 +1,2 @@
+//! Resolution: what a query gives, and the solver that computes it.
+#![tactic(auto)]
