@@ -1,0 +1,5 @@
+mod Growth
+mod Quoting
+pub mod Spans
+pub mod Standing
+mod Turns
