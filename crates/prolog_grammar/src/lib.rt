@@ -1,0 +1,4 @@
+//! Reading terms: the grammar of Prolog by operator priorities.
+#![tactic(auto)]
+
+pub mod grammar;
