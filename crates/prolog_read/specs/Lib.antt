@@ -1,0 +1,5 @@
+pub mod Machine
+pub mod Outcome
+pub mod Small
+pub mod Tokens
+pub mod Views
