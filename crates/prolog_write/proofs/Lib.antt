@@ -1,0 +1,4 @@
+pub mod Forms
+pub mod Lengths
+pub mod Pushing
+pub mod Walk

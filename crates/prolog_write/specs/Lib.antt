@@ -1,0 +1,4 @@
+pub mod Duties
+pub mod State
+pub mod Text
+pub mod Total
