@@ -1,2 +1,7 @@
 pub mod Goals
+pub mod Laws
+pub mod Program
+pub mod Rows
 pub mod Run
+pub mod Search
+pub mod Trace

@@ -1,0 +1,101 @@
+-- If two runners are related, so are the steps over them. One induction over the table of steps serves every law about runs.
+use Rattle.std.proofs.Common.{◌≡◌, ℕ, Bool, true, false, ◌||◌, ◌==◌, List, [], ◌∷◌, if◌then◌else◌, refl, subst, sym}
+use Rattle.term_core.specs.Tree.{Tree}
+use Rattle.term_core.specs.Substitution.{apply}
+use Rattle.solve_model.specs.Goals.{Indicator, Row, Succeeds, Fails, Both, Call, Predicate, row_of, Ready, Runs, Throws, ready}
+use Rattle.solve_model.specs.Run.{World, Clause, Item, Goal, Commit, ExitCatch, End, Failed, Cut, Thrown, Waits, Spent, Outside, Place, Used, Ran, Runner, Branch, ends, after, at_failed, at_cut, cut_to, in_order, if_ready, entered, clauses_of, called, locally, goal_step, item_step, some_left}
+
+-- what is done at an end passes on a run that stopped for want of steps or of a reply
+pub record PassesStops (k : End → Used → Ran) : Type 0 where
+  pub waits : (u : Used) → k Waits u ≡ ends Waits u
+  pub spent : (u : Used) → k Spent u ≡ ends Spent u
+
+-- an end other than waiting for a reply, which comes only after a prompt
+abbrev pub NotWaits : End → Type 0
+NotWaits Waits = ⊥
+NotWaits Failed = Unit {0}
+NotWaits (Cut l) = Unit {0}
+NotWaits (Thrown b l) = Unit {0}
+NotWaits Spent = Unit {0}
+NotWaits (Outside i) = Unit {0}
+
+-- A relation of runs that begin at what was used so far, which the ways to build runs keep.
+pub record IsKept (R : Used → Ran → Ran → Type 0) (w w' : World) : Type 0 where
+  pub at_end : (e : End) → NotWaits e → (u : Used) → R u (ends e u) (ends e u)
+  pub at_after : (u : Used) (a a' : Ran) (k k' : End → Used → Ran) → R u a a' → PassesStops k → PassesStops k' → ((e : End) → NotWaits e → (v : Used) → R v (k e v) (k' e v)) → R u (after a k) (after a' k')
+  pub same_clauses : w'.clauses ≡ w.clauses
+
+failed_passes : (f : Used → Ran) → PassesStops (at_failed f)
+failed_passes f = record { waits = λ u. refl; spent = λ u. refl }
+
+pub cut_passes : (d : ℕ) → PassesStops (at_cut d)
+cut_passes d = record { waits = λ u. refl; spent = λ u. refl }
+
+cut_to_passes : (d : ℕ) → PassesStops (cut_to d)
+cut_to_passes d = record { waits = λ u. refl; spent = λ u. refl }
+
+module _ (R : Used → Ran → Ran → Type 0) (w w' : World) (kept : IsKept R w w') where
+  failed_kept : (f f' : Used → Ran) → ((v : Used) → R v (f v) (f' v)) → (e : End) → NotWaits e → (v : Used) → R v (at_failed f e v) (at_failed f' e v)
+  failed_kept f f' h Failed x v = h v
+  failed_kept f f' h (Cut l) x v = kept.at_end (Cut l) tt v
+  failed_kept f f' h (Thrown b l) x v = kept.at_end (Thrown b l) tt v
+  failed_kept f f' h Waits x v = absurd x
+  failed_kept f f' h Spent x v = kept.at_end Spent tt v
+  failed_kept f f' h (Outside i) x v = kept.at_end (Outside i) tt v
+
+  pub cut_kept : (d : ℕ) (e : End) → NotWaits e → (v : Used) → R v (at_cut d e v) (at_cut d e v)
+  cut_kept d Failed x v = kept.at_end Failed tt v
+  cut_kept d (Cut l) x v = at (l == d)
+    where
+      at : (b : Bool) → R v (ends (if b then Failed else Cut l) v) (ends (if b then Failed else Cut l) v)
+      at true = kept.at_end Failed tt v
+      at false = kept.at_end (Cut l) tt v
+  cut_kept d (Thrown b l) x v = kept.at_end (Thrown b l) tt v
+  cut_kept d Waits x v = absurd x
+  cut_kept d Spent x v = kept.at_end Spent tt v
+  cut_kept d (Outside i) x v = kept.at_end (Outside i) tt v
+
+  cut_to_kept : (d : ℕ) (e : End) → NotWaits e → (v : Used) → R v (cut_to d e v) (cut_to d e v)
+  cut_to_kept d Failed x v = kept.at_end (Cut d) tt v
+  cut_to_kept d (Cut l) x v = kept.at_end _ tt v
+  cut_to_kept d (Thrown b l) x v = kept.at_end (Thrown b l) tt v
+  cut_to_kept d Waits x v = absurd x
+  cut_to_kept d Spent x v = kept.at_end Spent tt v
+  cut_to_kept d (Outside i) x v = kept.at_end (Outside i) tt v
+
+  if_ready_kept : (s : Ready) (is : List Item) (u : Used) (f f' : Tree → Ran) → ((t : Tree) → R u (f t) (f' t)) → R u (if_ready s is u f) (if_ready s is u f')
+  if_ready_kept (Runs t) is u f f' h = h t
+  if_ready_kept (Throws b) is u f f' h = kept.at_end _ tt u
+
+  module _ (r r' : Runner) (related : (is : List Item) (p : Place) (o : Bool) (u : Used) → R u (r is p o u) (r' is p o u)) where
+    in_order_kept : (bs : List Branch) (o : Bool) (u : Used) → R u (in_order r bs o u) (in_order r' bs o u)
+    unfolding in_order
+    in_order_kept [] o u = kept.at_end Failed tt u
+    in_order_kept (b ∷ bs) o u =
+        kept.at_after u _ _ _ _ (related b.items b.place (o || some_left bs) u) (failed_passes _) (failed_passes _) (failed_kept _ _ (λ v. in_order_kept bs o v))
+
+    locally_kept : (t : Tree) (is : List Item) (p : Place) (o : Bool) (u : Used) → R u (locally r t is p o u) (locally r' t is p o u)
+    locally_kept t is p o u =
+        kept.at_after u _ _ _ _ (related _ _ o u) (cut_passes p.level) (cut_passes p.level) (cut_kept p.level)
+
+    called_kept : (cs : List Clause) (i : Indicator) (t : Tree) (is : List Item) (p : Place) (o : Bool) (u : Used) → R u (called r cs i t is p o u) (called r' cs i t is p o u)
+    called_kept [] i t is p o u = kept.at_end _ tt u
+    called_kept (c ∷ cs) i t is p o u =
+        kept.at_after u _ _ _ _ (in_order_kept _ o u) (cut_passes p.level) (cut_passes p.level) (cut_kept p.level)
+
+    goal_kept : (x : Row) (l : ℕ) (cut : Bool) (is : List Item) (p : Place) (o : Bool) (u : Used) → R u (goal_step w r x l cut is p o u) (goal_step w' r' x l cut is p o u)
+    unfolding goal_step
+    goal_kept Succeeds l cut is p o u = related is p o u
+    goal_kept Fails l cut is p o u = kept.at_end Failed tt u
+    goal_kept (Both a b) l cut is p o u = related _ p o u
+    goal_kept (Call g) l cut is p o u =
+        if_ready_kept (ready (apply p.subst g)) is u _ _ (λ h. locally_kept h is p o u)
+    goal_kept (Predicate i t) l cut is p o u =
+        subst (λ (cs : List Clause). R u (called r (clauses_of i w.clauses) i t is p o u) (called r' (clauses_of i cs) i t is p o u)) (sym kept.same_clauses) (called_kept (clauses_of i w.clauses) i t is p o u)
+
+    pub item_kept : (i : Item) (is : List Item) (p : Place) (o : Bool) (u : Used) → R u (item_step w r i is p o u) (item_step w' r' i is p o u)
+    unfolding item_step
+    item_kept (Goal t l cut) is p o u = goal_kept (row_of t) l cut is p o u
+    item_kept (Commit l cut) is p o u =
+        kept.at_after u _ _ _ _ (related is p cut u) (cut_to_passes l) (cut_to_passes l) (cut_to_kept l)
+    item_kept (ExitCatch l) is p o u = related is p o u

@@ -1,0 +1,215 @@
+-- What is left to do, one frame at a time.
+use Rattle.std.proofs.Common.{◌≡◌, ◌≢◌, ℕ, suc, Bool, true, false, ◌||◌, List, [], ◌∷◌, ◌++◌, map, reverse, length, ap, refl, sym, ◌∙◌, ◌<◌, ◌≤◌, append_assoc, append-nil, arith, add-one, ◌+◌, Option, Some, None}
+use Rattle.std.proofs.lemmas.List.{reverse-append, map-append}
+use Rattle.term_core.specs.Tree.{Tree}
+use Rattle.term_core.specs.Substitution.{apply}
+use Rattle.term_core.specs.Variables.{numbered}
+use Rattle.solve_model.specs.declared.answers.Trace.{Trace}
+use Rattle.solve_model.specs.declared.answers.TraceMark.{TraceMark}
+use Rattle.solve_model.specs.declared.answers.TraceMark.TheVariants as shown
+use Rattle.solve_model.specs.declared.matching.Match.{Match}
+use Rattle.solve_model.specs.declared.search.Choice.{Choice}
+use Rattle.solve_model.specs.declared.search.End as the_end
+use Rattle.solve_model.specs.declared.search.Frame.{Frame}
+use Rattle.solve_model.specs.declared.search.Frame.TheVariants as frame
+use Rattle.solve_model.specs.declared.search.Item as kept
+use Rattle.solve_model.specs.Goals.{Indicator, existence_error, Ready, Runs, Throws, ready}
+use Rattle.solve_model.specs.Run.{World, Ran, Used, End, Failed, Item, Goal, Place, Branch, Clause, Runner, after, ends, marked, Answered, in_order, some_left, at_failed, at_cut, called, catcher, if_ready, locally, deeper, item_step, one_more, query, start}
+use Rattle.solve_model.specs.Run as run
+use Rattle.solve_model.specs.Search.{IsMatch, FirstMatch, used_of, place_of, item_of, items_of, alternatives, chosen, runs, resumed, at_frame, traced_after}
+use Rattle.solve_model.specs.Program.{clause_of}
+use Rattle.solve_model.specs.Trace.{mark_shown, marks_shown, traced, end_shown}
+use Rattle.solve_model.proofs.RunLaws.{run_step, taken_before, taken_at_limit}
+
+-- ---- items
+
+-- the item at the end is the first
+pub items_push : (is : List kept.Item) (i : kept.Item) → items_of (is ++ i ∷ []) ≡ item_of i ∷ items_of is
+items_push is i = ap reverse (map-append item_of is (i ∷ [])) ∙ reverse-append (map item_of is) (item_of i ∷ [])
+
+pub items_pushed : (is js : List kept.Item) (i : kept.Item) → js ≡ is ++ i ∷ [] → items_of js ≡ item_of i ∷ items_of is
+items_pushed is js i e = ap items_of e ∙ items_push is i
+
+-- ---- frames
+
+push_one : (w : World) (fs : List Frame) (f : Frame) (r : Ran) → resumed w (fs ++ f ∷ []) r ≡ resumed w fs (after r (at_frame w f))
+unfolding resumed
+push_one w [] f r = refl
+push_one w (g ∷ fs) f r = ap (λ (x : Ran). after x (at_frame w g)) (push_one w fs f r)
+
+pub resumed_push : (w : World) (fs gs : List Frame) (f : Frame) (r : Ran) → gs ≡ fs ++ f ∷ [] → resumed w gs r ≡ resumed w fs (after r (at_frame w f))
+resumed_push w fs gs f r e = ap (λ (hs : List Frame). resumed w hs r) e ∙ push_one w fs f r
+
+-- a mark comes before what is left
+pub resumed_marked : (w : World) (fs : List Frame) (m : run.Mark) (u : Used) (r : Ran) → resumed w fs (marked m u r) ≡ marked m u (resumed w fs r)
+unfolding resumed
+resumed_marked w [] m u r = refl
+resumed_marked w (f ∷ fs) m u r = ap (λ (x : Ran). after x (at_frame w f)) (resumed_marked w fs m u r)
+
+-- ---- alternatives
+
+-- a failure is all that is done after the last alternative
+nothing_left : (r : Runner) (o : Bool) (e : End) (u : Used) → at_failed (in_order r [] o) e u ≡ ends e u
+unfolding in_order
+nothing_left r o Failed u = refl
+nothing_left r o (run.Cut l) u = refl
+nothing_left r o (run.Thrown b l) u = refl
+nothing_left r o run.Waits u = refl
+nothing_left r o run.Spent u = refl
+nothing_left r o (run.Outside i) u = refl
+
+after_nothing : (r : Runner) (o : Bool) (a : Ran) → after a (at_failed (in_order r [] o)) ≡ a
+after_nothing r o a =
+    ap (λ (b : Ran). let x : Ran = record b { marks = a.marks ++ b.marks } in x) (nothing_left r o a.end a.used)
+    ∙ ap (λ (ms : List (ℕ × run.Mark)). let x : Ran = record a { marks = ms } in x) (append-nil a.marks)
+
+or_false : (o : Bool) → (o || false) ≡ o
+or_false true = refl
+or_false false = refl
+
+or_true : (o : Bool) → (o || true) ≡ true
+or_true true = refl
+or_true false = refl
+
+pub no_alternative : (r : Runner) (bs : List Branch) (o : Bool) (u : Used) → bs ≡ [] → ends Failed u ≡ in_order r bs o u
+unfolding in_order
+no_alternative r bs o u e = ap (λ (cs : List Branch). in_order r cs o u) (sym e)
+
+pub last_alternative : (r : Runner) (bs cs : List Branch) (b : Branch) (o : Bool) (u : Used) → bs ≡ b ∷ cs → cs ≡ [] → r b.items b.place o u ≡ in_order r bs o u
+unfolding in_order
+last_alternative r bs cs b o u e h =
+    sym (after_nothing r o (r b.items b.place o u))
+    ∙ ap (λ (x : Bool). after (r b.items b.place x u) (at_failed (in_order r [] o))) (sym (or_false o))
+    ∙ ap (λ (ds : List Branch). in_order r ds o u) (sym (e ∙ ap (λ (ds : List Branch). b ∷ ds) h))
+
+pub first_alternative : (r : Runner) (bs cs ds : List Branch) (b c : Branch) (o : Bool) (u : Used) → bs ≡ b ∷ cs → cs ≡ c ∷ ds → after (r b.items b.place true u) (at_failed (in_order r (c ∷ ds) o)) ≡ in_order r bs o u
+unfolding in_order
+first_alternative r bs cs ds b c o u e h =
+    ap (λ (x : Bool). after (r b.items b.place x u) (at_failed (in_order r (c ∷ ds) o))) (sym (or_true o))
+    ∙ ap (λ (es : List Branch). in_order r es o u) (sym (e ∙ ap (λ (es : List Branch). b ∷ es) h))
+
+-- ---- calls
+
+pub unknown_called : (r : Runner) (cs : List Clause) (i : Indicator) (t : Tree) (is : List Item) (p : Place) (o : Bool) (u : Used) → cs ≡ [] → ends (run.Thrown (existence_error i) (catcher is)) u ≡ called r cs i t is p o u
+unknown_called r [] i t is p o u h = refl
+unknown_called r (c ∷ cs) i t is p o u h = cc
+
+pub known_called : (r : Runner) (cs ds : List Clause) (i : Indicator) (t : Tree) (is : List Item) (p : Place) (o : Bool) (u : Used) → ds ≡ cs → (cs ≢ []) → after (in_order r (run.entered ds t is p o) o u) (at_cut p.level) ≡ called r cs i t is p o u
+known_called r [] ds i t is p o u e h = absurd (h refl)
+known_called r (c ∷ cs) ds i t is p o u e h = ap (λ (ks : List Clause). after (in_order r (run.entered ks t is p o) o u) (at_cut p.level)) e
+
+-- ---- the first item
+
+pub run_first : (w : World) (is : List Item) (i : Item) (js : List Item) (p : Place) (o : Bool) (u : Used) → is ≡ i ∷ js → u.steps < w.limit → runs w is p o u ≡ item_step w (runs w) i js p o (one_more u)
+run_first w is i js p o u e h =
+    ap (λ (ks : List Item). runs w ks p o u) e ∙ run_step w i js p o u ∙ taken_before w (runs w) i js p o u h
+
+pub run_at_limit : (w : World) (is : List Item) (i : Item) (js : List Item) (p : Place) (o : Bool) (u : Used) → is ≡ i ∷ js → w.limit ≤ u.steps → runs w is p o u ≡ ends run.Spent u
+run_at_limit w is i js p o u e h =
+    ap (λ (ks : List Item). runs w ks p o u) e ∙ run_step w i js p o u ∙ taken_at_limit w (runs w) i js p o u h
+
+pub run_of_none : (w : World) (p : Place) (o : Bool) (u : Used) → runs w [] p o u ≡ marked (Answered p.subst o) u (ends Failed u)
+unfolding run.run
+run_of_none w p o u = refl
+
+-- ---- the trace
+
+traced_marked : (t : Tree) (ms : List (ℕ × TraceMark)) (m : run.Mark) (u : Used) (r : Ran) → traced_after t (ms ++ (u.steps, mark_shown t m) ∷ []) r ≡ traced_after t ms (marked m u r)
+traced_marked t ms m u r =
+    ap (λ (l : List (ℕ × TraceMark)). let x : Trace = record { marks = l; steps = r.used.steps; replies_used = r.used.replies; end = end_shown r.end } in x)
+    (append_assoc ms ((u.steps, mark_shown t m) ∷ []) (marks_shown t r.marks))
+
+-- an answer is a mark, and the branch has failed
+pub answered : (w : World) (t : Tree) (fs : List Frame) (ms ns : List (ℕ × TraceMark)) (is : List Item) (p : Place) (o : Bool) (u : Used) (a : Tree) → is ≡ [] → a ≡ apply p.subst t → ns ≡ ms ++ (u.steps, shown.Answer a o) ∷ [] →
+    traced_after t ns (resumed w fs (ends Failed u)) ≡ traced_after t ms (resumed w fs (runs w is p o u))
+answered w t fs ms ns is p o u a e d h =
+    rw (h, d, e, run_of_none w p o u, resumed_marked w fs (Answered p.subst o) u (ends Failed u))
+    (traced_marked t ms (Answered p.subst o) u (resumed w fs (ends Failed u)))
+
+-- ---- what a step leaves
+
+pub called_locally : (w : World) (u : Used) (fs gs : List Frame) (p : Place) (js ks : List kept.Item) (g : Tree) (o : Bool) (r : Ready) → gs ≡ fs ++ frame.Cut p.level ∷ [] → items_of js ≡ Goal g p.level o ∷ items_of ks → r ≡ Runs g →
+    resumed w gs (runs w (items_of js) (deeper 1 p) o u) ≡ resumed w fs (if_ready r (items_of ks) u (λ h. locally (runs w) h (items_of ks) p o u))
+called_locally w u fs gs p js ks g o r e h d =
+    resumed_push w fs gs (frame.Cut p.level) _ e
+    ∙ ap (λ (is : List Item). resumed w fs (after (runs w is (deeper 1 p) o u) (at_cut p.level))) h
+    ∙ ap (λ (x : Ready). resumed w fs (if_ready x (items_of ks) u (λ h. locally (runs w) h (items_of ks) p o u))) (sym d)
+
+pub chosen_none : (w : World) (u : Used) (fs : List Frame) (c : Choice) → ((is : List Item) (o : Bool) → alternatives w.clauses c.from c.goal is (place_of c.place) o ≡ []) → resumed w fs (ends Failed u) ≡ resumed w fs (chosen w c u)
+chosen_none w u fs c h = ap (resumed w fs) (no_alternative (runs w) _ c.more u (h (items_of c.items.items) c.more))
+
+pub chosen_last : (w : World) (u : Used) (fs : List Frame) (c : Choice) (m : Match) (b : Branch) → IsMatch w.clauses c.goal (place_of c.place) c.from m → ((is : List Item) (o : Bool) → alternatives w.clauses (m.at + 1) c.goal is (place_of c.place) o ≡ []) → b ≡ run.body_branch (clause_of m.clause.now) (items_of c.items.items) (place_of c.place) c.more m.subst →
+    resumed w fs (runs w b.items b.place c.more u) ≡ resumed w fs (chosen w c u)
+chosen_last w u fs c m b h none e =
+    ap (λ (x : Branch). resumed w fs (runs w x.items x.place c.more u)) e
+    ∙ ap (resumed w fs) (last_alternative (runs w) _ _ _ c.more u (h.same (items_of c.items.items) c.more ∙ h.first (items_of c.items.items) c.more) (none (items_of c.items.items) c.more))
+
+pub chosen_first : (w : World) (u : Used) (fs gs : List Frame) (c : Choice) (m n : Match) (b : Branch) → IsMatch w.clauses c.goal (place_of c.place) c.from m → IsMatch w.clauses c.goal (place_of c.place) (m.at + 1) n → b ≡ run.body_branch (clause_of m.clause.now) (items_of c.items.items) (place_of c.place) c.more m.subst → gs ≡ fs ++ frame.Others (record c { from = n.at }) ∷ [] →
+    resumed w gs (runs w b.items b.place true u) ≡ resumed w fs (chosen w c u)
+chosen_first w u fs gs c m n b h k e d =
+    resumed_push w fs gs (frame.Others (record c { from = n.at })) _ d
+    ∙ ap (λ (x : Branch). resumed w fs (after (runs w x.items x.place true u) (at_failed (chosen w (record c { from = n.at }))))) e
+    ∙ ap (λ (bs : List Branch). resumed w fs (after (runs w (run.body_branch (clause_of m.clause.now) (items_of c.items.items) (place_of c.place) c.more m.subst).items (run.body_branch (clause_of m.clause.now) (items_of c.items.items) (place_of c.place) c.more m.subst).place true u) (at_failed (in_order (runs w) bs c.more)))) (k.first (items_of c.items.items) c.more)
+    ∙ ap (resumed w fs) (first_alternative (runs w) _ _ _ _ _ c.more u (h.same (items_of c.items.items) c.more ∙ h.first (items_of c.items.items) c.more) (k.same (items_of c.items.items) c.more ∙ k.first (items_of c.items.items) c.more))
+
+pub no_match : (cs : List Clause) (goal : Tree) (p : Place) (from : ℕ) (r : Option Match) → FirstMatch cs goal p from r → ((m : Match) → r ≡ Some m → ⊥) → (is : List Item) (o : Bool) → alternatives cs from goal is p o ≡ []
+no_match cs goal p from None h n = h
+no_match cs goal p from (Some m) h n = absurd (n m refl)
+
+-- ---- the whole search
+
+pub spent : (w : World) (t : Tree) (fs : List Frame) (ms : List (ℕ × TraceMark)) (is : List Item) (i : Item) (js : List Item) (p : Place) (o : Bool) (u : Used) → is ≡ i ∷ js → w.limit ≤ u.steps → traced_after t ms (resumed w fs (ends run.Spent u)) ≡ traced_after t ms (resumed w fs (runs w is p o u))
+spent w t fs ms is i js p o u e h =
+    ap (λ (x : Ran). traced_after t ms (resumed w fs x)) (sym (run_at_limit w is i js p o u e h))
+
+pub stepped : (w : World) (t : Tree) (fs : List Frame) (ms : List (ℕ × TraceMark)) (is : List Item) (i : Item) (js : List Item) (p : Place) (o : Bool) (n : ℕ) (r : Ran) → is ≡ i ∷ js → n < w.limit → r ≡ resumed w fs (item_step w (runs w) i js p o (used_of (n + 1))) → traced_after t ms r ≡ traced_after t ms (resumed w fs (runs w is p o (used_of n)))
+stepped w t fs ms is i js p o n r e h d =
+    ap (traced_after t ms)
+    (d
+    ∙ ap (λ (m : ℕ). resumed w fs (item_step w (runs w) i js p o (used_of m))) (let x : n + 1 ≡ suc n = omega arith in x)
+    ∙ ap (resumed w fs) (sym (run_first w is i js p o (used_of n) e h)))
+
+pub started : (w : World) (t : Tree) (r : Ran) → traced_after t [] (resumed w [] r) ≡ traced t r
+unfolding resumed
+started w t r = refl
+
+-- no frame is left
+pub over : (w : World) (t : Tree) (fs : List Frame) (ms : List (ℕ × TraceMark)) (r : Ran) → fs ≡ [] → traced_after t ms r ≡ traced_after t ms (resumed w fs r)
+unfolding resumed
+over w t fs ms r d = ap (λ (gs : List Frame). traced_after t ms (resumed w gs r)) (sym d)
+
+-- a frame is taken off, and does what it does at this end
+pub popped : (w : World) (t : Tree) (fs gs : List Frame) (f : Frame) (ms : List (ℕ × TraceMark)) (e : End) (u : Used) (r : Ran) → fs ≡ gs ++ f ∷ [] → r ≡ resumed w gs (at_frame w f e u) → traced_after t ms r ≡ traced_after t ms (resumed w fs (ends e u))
+popped w t fs gs f ms e u r d h = ap (traced_after t ms) (h ∙ sym (resumed_push w gs fs f (ends e u) d))
+
+pub nothing_kept : {A : Type 0} (xs : List A) (n : ℕ) → n ≡ 0 → n ≡ length xs → xs ≡ []
+nothing_kept [] n e h = refl
+nothing_kept (x ∷ xs) n e h = absurd (omega (arith, e, h))
+
+-- ---- the query
+
+-- a query whose goal is ready in this way
+abbrev asked : World → (g t : Tree) → Ready → Ran
+asked w g t (Runs h) = after (runs w (Goal h 1 false ∷ []) (start g t) false (used_of 0)) (at_cut 1)
+asked w g t (Throws b) = ends (run.Thrown (numbered b) 0) (used_of 0)
+
+query_ready : (w : World) (g t : Tree) (r : Ready) → ready g ≡ r → asked w g t r ≡ query w g t
+unfolding query
+query_ready w g t r e = ap (asked w g t) (sym e) ∙ go (ready g)
+  where
+    go : (r : Ready) → asked w g t r ≡ elim r as (λ x. Ran) [
+      | Runs h ↦ after (run.run w w.limit (Goal h 1 false ∷ []) (start g t) false run.unused) (at_cut 1)
+      | Throws b ↦ ends (run.Thrown (numbered b) 0) run.unused
+    ]
+    go (Runs h) = refl
+    go (Throws b) = refl
+
+pub asked_throws : (w : World) (g t b ball : Tree) (fs : List Frame) (ms : List (ℕ × TraceMark)) → ready g ≡ Throws b → ball ≡ numbered b → fs ≡ [] → ms ≡ [] → traced_after t ms (resumed w fs (ends (run.Thrown ball 0) (used_of 0))) ≡ traced t (query w g t)
+unfolding resumed
+asked_throws w g t b ball fs ms e h d k =
+    rw (d, k, h) (ap (traced t) (query_ready w g t (Throws b) e))
+
+pub asked_runs : (w : World) (g t h : Tree) (fs : List Frame) (ms : List (ℕ × TraceMark)) (is : List Item) (p : Place) → ready g ≡ Runs h → fs ≡ frame.Cut 1 ∷ [] → ms ≡ [] → is ≡ Goal h 1 false ∷ [] → p ≡ start g t → traced_after t ms (resumed w fs (runs w is p false (used_of 0))) ≡ traced t (query w g t)
+unfolding resumed
+asked_runs w g t h fs ms is p e d k i q =
+    rw (d, k, i, q) (ap (traced t) (query_ready w g t (Runs h) e))

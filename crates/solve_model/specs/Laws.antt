@@ -1,0 +1,32 @@
+-- Laws of queries under other limits.
+use Rattle.std.specs.Prelude.{◌≡◌, ℕ, ◌+◌, ◌⊎◌, List, ◌++◌, filter, nat_le}
+use Rattle.term_core.specs.Tree.{Tree}
+use Rattle.solve_model.specs.Run.{World, Mark, End, Waits, Spent, Ran, query}
+
+-- the world with this many more steps, and with these replies after the others
+abbrev pub widened : ℕ → List Tree → World → World
+widened n ts w = record { clauses = w.clauses; replies = w.replies ++ ts; limit = w.limit + n }
+
+-- the first marks begin the second
+abbrev pub Begins : List (ℕ × Mark) → List (ℕ × Mark) → Type 0
+Begins ms ns = (more : List (ℕ × Mark)) × (ns ≡ ms ++ more)
+
+-- it stopped for want of a reply or of steps
+abbrev pub IsStopped : End → Type 0
+IsStopped e = (e ≡ Waits) ⊎ (e ≡ Spent)
+
+-- More steps and more replies only add: a query gives the same with them, or it stopped for want of them and its marks begin the further one's.
+abbrev pub MoreOnlyAdds : Type 0
+MoreOnlyAdds =
+    (w : World) (n : ℕ) (ts : List Tree) (g t : Tree) →
+    (query (widened n ts w) g t ≡ query w g t) ⊎ (IsStopped (query w g t).end × Begins (query w g t).marks (query (widened n ts w) g t).marks)
+
+-- the marks made after no more than n steps
+abbrev pub marks_within : ℕ → List (ℕ × Mark) → List (ℕ × Mark)
+marks_within n ms = filter (λ m. nat_le m.0 n) ms
+
+-- What was marked within the limit stands, also after the last step: with more steps a query gives these marks and later ones.
+abbrev pub MarksStand : Type 0
+MarksStand =
+    (w : World) (n : ℕ) (g t : Tree) →
+    (query w g t).marks ≡ marks_within w.limit (query (record w { limit = w.limit + n }) g t).marks

@@ -1,0 +1,105 @@
+-- What the state of a search stands for.
+use Rattle.std.specs.Prelude.{◌≡◌, ◌≢◌, ℕ, ◌+◌, Bool, true, false, List, [], ◌∷◌, ◌++◌, map, ◌<◌, ◌^◌, drop, reverse, Option, Some, None}
+use Rattle.term_core.specs.Tree.{Tree}
+use Rattle.solve_model.specs.declared.answers.Trace.{Trace}
+use Rattle.solve_model.specs.declared.answers.TraceMark.{TraceMark}
+use Rattle.solve_model.specs.declared.search.Place.{Place}
+use Rattle.solve_model.specs.declared.search.Item.{Item}
+use Rattle.solve_model.specs.declared.search.Item.TheVariants as item
+use Rattle.solve_model.specs.declared.search.Branch.{Branch}
+use Rattle.solve_model.specs.declared.search.Choice.{Choice}
+use Rattle.solve_model.specs.declared.search.End.{End}
+use Rattle.solve_model.specs.declared.search.End.TheVariants as the_end
+use Rattle.solve_model.specs.declared.search.Frame.{Frame}
+use Rattle.solve_model.specs.declared.search.Frame.TheVariants as frame
+use Rattle.solve_model.specs.declared.matching.Match.{Match}
+use Rattle.solve_model.specs.declared.search.Now.{Now}
+use Rattle.solve_model.specs.declared.search.Now.TheVariants as now
+use Rattle.solve_model.specs.declared.search.Search.{Search}
+use Rattle.solve_model.specs.Program.{clause_of}
+use Rattle.solve_model.specs.Goals.{Indicator}
+use Rattle.solve_model.specs.Rows.{indicator_of}
+use Rattle.solve_model.specs.Trace.{marks_shown, end_shown}
+use Rattle.solve_model.specs.Run as run
+
+abbrev pub place_of : Place → run.Place
+place_of p = record { subst = p.subst; next = p.next; level = p.level }
+
+abbrev pub item_of : Item → run.Item
+item_of (item.Goal g) = run.Goal g.term g.level g.more
+item_of (item.Commit l more) = run.Commit l more
+item_of (item.ExitCatch l) = run.ExitCatch l
+
+-- the first item is kept last
+abbrev pub items_of : List Item → List run.Item
+items_of is = reverse (map item_of is)
+
+abbrev pub branch_of : Branch → run.Branch
+branch_of b = record { items = items_of b.items.items; place = place_of b.place }
+
+abbrev pub end_of : End → run.End
+end_of the_end.Failed = run.Failed
+end_of (the_end.Cut l) = run.Cut l
+end_of (the_end.Thrown b l) = run.Thrown b l
+end_of the_end.Spent = run.Spent
+
+abbrev pub used_of : ℕ → run.Used
+used_of n = record { steps = n; replies = 0 }
+
+-- a run of the world, whose depth is its limit
+abbrev pub runs : run.World → run.Runner
+runs w = run.run w w.limit
+
+-- the alternatives of a goal from a place among the clauses on
+abbrev pub alternatives : List run.Clause → ℕ → Tree → List run.Item → run.Place → Bool → List run.Branch
+alternatives cs from goal is p more =
+    run.entered (run.clauses_of (indicator_of goal) (drop from cs)) goal is p more
+
+abbrev pub chosen : run.World → Choice → run.Used → run.Ran
+chosen w c u =
+    run.in_order (runs w) (alternatives w.clauses c.from c.goal (items_of c.items.items) (place_of c.place) c.more) c.more u
+
+-- what a frame does at the end of a run
+abbrev pub at_frame : run.World → Frame → run.End → run.Used → run.Ran
+at_frame w (frame.Others c) = run.at_failed (chosen w c)
+at_frame w (frame.Cut l) = run.at_cut l
+at_frame w (frame.CutTo l) = run.cut_to l
+
+-- a run, and then the frames, the last of them first
+unfoldable pub resumed : run.World → List Frame → run.Ran → run.Ran
+resumed w [] r = r
+resumed w (f ∷ fs) r = run.after (resumed w fs r) (at_frame w f)
+
+abbrev pub run_of : run.World → Now → run.Used → run.Ran
+run_of w (now.Runs b more) u = runs w (items_of b.items.items) (place_of b.place) more u
+run_of w (now.Ends e) u = run.ends (end_of e) u
+
+-- the first alternative from a place on, at the place of its clause
+pub record IsMatch (cs : List run.Clause) (goal : Tree) (p : run.Place) (from : ℕ) (m : Match) : Type 0 where
+  pub next_fits : m.at + 1 < 2 ^ 64
+  pub same : (is : List run.Item) (more : Bool) → alternatives cs from goal is p more ≡ alternatives cs m.at goal is p more
+  pub first : (is : List run.Item) (more : Bool) → alternatives cs m.at goal is p more ≡ run.body_branch (clause_of m.clause.now) is p more m.subst ∷ alternatives cs (m.at + 1) goal is p more
+
+-- the first alternative from a place on, or that there is none
+abbrev pub FirstMatch : List run.Clause → Tree → run.Place → ℕ → Option Match → Type 0
+FirstMatch cs goal p from None = (is : List run.Item) (more : Bool) → alternatives cs from goal is p more ≡ []
+FirstMatch cs goal p from (Some m) = IsMatch cs goal p from m
+
+-- the predicate has clauses, and they begin at this place
+pub record IsFirst (i : Indicator) (cs : List run.Clause) (at : ℕ) : Type 0 where
+  pub same : run.clauses_of i (drop at cs) ≡ run.clauses_of i cs
+  pub some : run.clauses_of i cs ≢ []
+
+-- a run that is left, after these marks
+abbrev pub traced_after : (template : Tree) → List (ℕ × TraceMark) → run.Ran → Trace
+traced_after template ms r = record {
+  marks = ms ++ marks_shown template r.marks;
+  steps = r.used.steps;
+  replies_used = r.used.replies;
+  end = end_shown r.end;
+}
+
+-- the whole run, of which a search has made a part: its marks, then those of what is left
+abbrev pub whole : run.World → (template : Tree) → Now → Search → Trace
+whole w template n s =
+    traced_after template s.marks (resumed w s.stack.frames.items (run_of w n (used_of s.steps)))

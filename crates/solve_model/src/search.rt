@@ -1,0 +1,91 @@
+// What a search keeps: the branch that runs, and what is done at its end.
+use crate::answers::TraceMark;
+use crate::work::Work;
+use term_core::{List, Subst, Term};
+
+// Where a branch stands.
+#[derive(Drop)]
+pub(crate) struct Place {
+    // what its variables stand for
+    pub(crate) subst: Subst,
+    // the next number for a variable
+    pub(crate) next: u64,
+    // the next level for a cut
+    pub(crate) level: u64,
+}
+
+// A goal to run; a cut in it goes back to the level, and the flag tells whether an alternative is left there.
+#[derive(Drop)]
+pub(crate) struct Goal {
+    pub(crate) term: Term,
+    pub(crate) level: u64,
+    pub(crate) more: bool,
+}
+
+// One thing that is left to do.
+#[derive(Drop)]
+pub(crate) enum Item {
+    Goal(Goal),
+    // drops the alternatives above the level
+    Commit(u64, bool),
+    // the goal under the catch of this level has succeeded
+    ExitCatch(u64),
+}
+
+// What is left to do, the first item last, and where.
+#[derive(Drop)]
+pub(crate) struct Branch {
+    pub(crate) items: Vec<Item>,
+    pub(crate) place: Place,
+}
+
+#[derive(Drop)]
+pub(crate) enum End {
+    Failed,
+    Cut(u64),
+    Thrown(Term, u64),
+    Spent,
+}
+
+// A goal's alternatives from a clause on: what is left to do after it, where it was called, and whether an alternative is left beside these.
+#[derive(Drop)]
+pub(crate) struct Choice {
+    pub(crate) goal: Term,
+    pub(crate) items: Vec<Item>,
+    pub(crate) place: Place,
+    pub(crate) more: bool,
+    pub(crate) from: usize,
+}
+
+// What is done at the end of a run, where an end that isn't named passes.
+#[derive(Drop)]
+pub(crate) enum Frame {
+    // at a failure the other alternatives are run
+    Others(Choice),
+    // a cut of this level stops
+    Cut(u64),
+    // a failure drops the alternatives of this level
+    CutTo(u64),
+}
+
+// What a search does next.
+#[derive(Drop)]
+pub(crate) enum Now {
+    Runs(Branch, bool),
+    Ends(End),
+}
+
+// What is done at the ends of runs, the innermost run's last, and the work that may still be done.
+#[derive(Drop)]
+pub(crate) struct Stack {
+    pub(crate) frames: Vec<Frame>,
+    pub(crate) work: Work,
+}
+
+// What stands beside the branch that runs.
+#[derive(Drop)]
+pub(crate) struct Search {
+    pub(crate) marks: List<(u64, TraceMark)>,
+    pub(crate) steps: u64,
+    pub(crate) stack: Stack,
+}

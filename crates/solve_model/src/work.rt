@@ -1,0 +1,38 @@
+use term_core::{Memory, Subst, Term};
+
+/// How much one query writes at most into the substitutions that its steps make, the goals that it takes apart and the items that it copies for its alternatives: a term counts as its nodes and four more.
+///
+/// A query that would write more wants memory. So terms that double at each step are given up soon, whatever the limit of steps, and what a query holds stays under 1 GiB.
+pub const MAX_WORK: u64 = 10_000_000;
+
+// What a query may still write.
+#[derive(Drop)]
+pub(crate) struct Work {
+    left: u64,
+}
+
+impl Work {
+    pub(crate) fn new() -> Work {
+        Work { left: MAX_WORK }
+    }
+
+    // Counts the writing of a term.
+    pub(crate) fn spend(&mut self, term: &Term) -> Result<(), Memory> {
+        let cost = (term.nodes().len() as u64).saturating_add(4);
+        match self.left.checked_sub(cost) {
+            Some(left) => {
+                self.left = left;
+                Ok(())
+            }
+            None => Err(Memory),
+        }
+    }
+
+    // Counts the writing of a substitution's terms.
+    pub(crate) fn spend_all(&mut self, subst: &Subst) -> Result<(), Memory> {
+        for pair in subst.pairs() {
+            self.spend(&pair.1)?;
+        }
+        Ok(())
+    }
+}
