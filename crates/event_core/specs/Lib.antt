@@ -1,0 +1,12 @@
+pub mod Fits
+pub mod Full
+pub mod Laws
+pub mod Lines
+pub mod Parts
+pub mod Pengines
+pub mod Pieces
+pub mod Reads
+pub mod Requests
+pub mod Standing
+pub mod Stops
+pub mod Texts

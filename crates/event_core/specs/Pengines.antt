@@ -1,0 +1,11 @@
+-- A pengine as its clients see it.
+use Rattle.std.specs.Prelude.{List}
+use Rattle.solve_model.specs.Run.{Clause}
+use Rattle.event_core.specs.declared.settings.Settings.{Settings}
+use Rattle.event_core.specs.Full.{Place}
+
+-- its clauses, its settings, and where it rests
+pub record Standing : Type 0 where
+  pub clauses : List Clause
+  pub settings : Settings
+  pub place : Place

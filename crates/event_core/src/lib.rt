@@ -1,0 +1,32 @@
+//! What a client sees of a pengine: its requests, the stops of its queries, and its events.
+#![tactic(auto)]
+
+mod chunk;
+mod event;
+mod fit;
+mod full;
+mod limits;
+mod pengine;
+mod piece;
+mod print;
+mod query;
+mod request;
+mod rest;
+mod settings;
+mod stop;
+mod stops;
+mod text;
+
+pub use event::{Event, Kind};
+pub use full::all_events;
+pub use limits::{CHUNK_BYTES, DEFAULT_LIMIT, MAX_DEPTH, MAX_LIMIT, MAX_TEXT};
+pub use pengine::Pengine;
+pub use print::line;
+pub use request::{Ask, Request};
+pub use rest::Rest;
+pub use settings::Settings;
+pub use stop::Stop;
+pub use text::fits;
+
+#[cfg(test)]
+mod tests;

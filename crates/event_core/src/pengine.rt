@@ -1,0 +1,138 @@
+ghost use Rattle.std.specs.Prelude.{◌≡◌, ◌≢◌, ◌↔◌, [], ◌∷◌, IsTrue, IfOk, OnOk, OnErr};
+ghost use Rattle.event_core.specs.declared.event.Event.TheVariants as event;
+ghost use Rattle.event_core.specs.declared.query.Place.TheVariants.{Asked};
+ghost use Rattle.event_core.specs.declared.rest.Rest.TheVariants as rest;
+ghost use Rattle.event_core.specs.Full.{Spec, Free, Closed, at, step};
+ghost use Rattle.event_core.specs.Standing.{place_at, reading_at, IsRead, Stands, spec_of};
+
+use crate::event::{Event, Kind};
+use crate::fit::{Fit, fit_of};
+use crate::query::{Outcome, Place, Query, begin, end};
+use crate::request::Request;
+use crate::settings::Settings;
+use solve_model::Program;
+use std::alloc::Global;
+use std::marker::Model;
+use std::mem;
+use term_core::{List, Memory};
+
+// One event, which leaves the pengine where it is.
+fn tell(alloc: Global, place: Place, event: Event) -> Result<Outcome, Memory>
+    ensures place { IfOk result (λ o. o.place ≡ place) }
+    ensures events { IfOk result (λ o. o.events ≡ event ∷ []) }
+{
+    let mut events = List::new(alloc);
+    events.push(event)?;
+    Ok(Outcome { place, events })
+}
+
+// What a request does outside of a query.
+fn start(
+    alloc: Global,
+    program: &Program,
+    settings: Settings,
+    request: Request,
+) -> Result<Outcome, Memory>
+    ensures reading { IfOk result (λ o. reading_at (spec_of program.now settings) o ≡ step (spec_of program.now settings) request Free) }
+    ensures stands { IfOk result (λ o. Stands (spec_of program.now settings) o.place) }
+{
+    let outcome = match request {
+        Request::Ask(ask) => begin(alloc, program, settings, ask)?,
+        Request::Next(_) => tell(alloc, Place::Free, Event::Protocol(Kind::Next))?,
+        Request::Stop => tell(alloc, Place::Free, Event::Protocol(Kind::Stop))?,
+        Request::Respond(_) => tell(alloc, Place::Free, Event::Protocol(Kind::Respond))?,
+    };
+    Ok(outcome)
+}
+
+impl Query {
+    // What a request does to a query that rests.
+    fn answer(self, alloc: Global, destroys: bool, request: Request) -> Result<Outcome, Memory>
+        requires { self.rest ≢ rest.Over }
+        ensures reading { IfOk result (λ o. (spec : Spec) → spec.destroys ≡ destroys → IsRead spec self → reading_at spec o ≡ step spec request (place_at spec (Asked self))) }
+        ensures stands { IfOk result (λ o. (spec : Spec) → IsRead spec self → Stands spec o.place) }
+    {
+        match fit_of(self.rest, &request) {
+            Fit::GoesOn => {
+                let outcome = self.go_on(alloc, destroys, request)?;
+                Ok(outcome)
+            }
+            Fit::Stops => {
+                let mut events = List::new(alloc);
+                events.push(Event::Stop)?;
+                let outcome = end(destroys, events)?;
+                Ok(outcome)
+            }
+            Fit::Misfit => {
+                let kind = request.kind();
+                let outcome = tell(alloc, Place::Asked(self), Event::Protocol(kind))?;
+                Ok(outcome)
+            }
+        }
+    }
+}
+
+/// One pengine over a program (Lager and Wielemaker, TPLP 2014), which contracts see as its clauses, its settings and where it rests.
+/// The event `create` stands before all that its requests bring.
+#[derive(Debug, Drop)]
+pub struct Pengine {
+    program: Program,
+    settings: Settings,
+    place: Place,
+}
+
+impl Model for Pengine {
+    ghost use Rattle.std.specs.Coded.{codes};
+    ghost use Rattle.term_core.specs.Flat.{tree_code};
+    ghost use Rattle.event_core.specs.Pengines.{Standing};
+
+    ghost Value = { Standing };
+
+    ghost coded = { Prim.hlevel (codes, tree_code) };
+
+    ghost use Rattle.event_core.specs.Standing.{place_at, spec_of, Stands};
+
+    ghost view = { λ p. record { clauses = p.program; settings = p.settings; place = place_at (spec_of p.program p.settings) p.place } };
+
+    ghost invariant = { λ p. Stands (spec_of p.program p.settings) p.place };
+}
+
+impl Pengine {
+    /// A pengine outside of a query.
+    pub fn new(program: Program, settings: Settings) -> Pengine
+        ensures { result ≡ record { clauses = program; settings = settings; place = Free } }
+    {
+        Pengine {
+            program,
+            settings,
+            place: Place::Free,
+        }
+    }
+
+    /// Whether the pengine is past its end, where requests bring nothing.
+    pub fn ended(&self) -> bool
+        ensures { IsTrue result ↔ (self.now.place ≡ Closed) }
+    {
+        matches!(self.place, Place::Closed)
+    }
+
+    /// The events that a request brings, up to the next rest. After want of memory the pengine is past its end.
+    pub fn request(&mut self, alloc: Global, request: Request) -> Result<List<Event>, Memory>
+        ensures events { IfOk result (λ es. at self.new.place es ≡ step (spec_of self.old.clauses self.old.settings) request self.old.place) }
+        ensures clauses { self.new.clauses ≡ self.old.clauses }
+        ensures settings { self.new.settings ≡ self.old.settings }
+        ensures err { OnErr result (self.new.place ≡ Closed) }
+    {
+        let place = mem::replace(&mut self.place, Place::Closed);
+        let outcome = match place {
+            Place::Free => start(alloc, &self.program, self.settings, request)?,
+            Place::Asked(query) => query.answer(alloc, self.settings.destroys, request)?,
+            Place::Closed => Outcome {
+                place: Place::Closed,
+                events: List::new(alloc),
+            },
+        };
+        self.place = outcome.place;
+        Ok(outcome.events)
+    }
+}

@@ -1,0 +1,145 @@
+// A query that rests, and the places where a pengine rests.
+ghost use Rattle.std.specs.Prelude.{◌≡◌, [], IfOk, length};
+ghost use Rattle.event_core.specs.declared.fit.Fit.TheVariants.{GoesOn};
+ghost use Rattle.event_core.specs.Requests.{fit};
+ghost use Rattle.event_core.specs.Full.{Spec, In, events_of, closes, comes_to, gives_all_at};
+ghost use Rattle.event_core.specs.Standing.{query_at, further, reading_at, IsRead, Stands, chunk_of, spec_of};
+
+use crate::event::Event;
+use crate::piece::{Piece, read_piece};
+use crate::request::{Ask, Request};
+use crate::rest::Rest;
+use crate::settings::Settings;
+use crate::stop::Stop;
+use crate::stops::stops_of;
+use solve_model::Program;
+use std::alloc::Global;
+use std::collections::VecDeque;
+use term_core::{List, Memory};
+
+// A query that rests.
+#[derive(Debug, Drop)]
+pub(crate) struct Query {
+    pub(crate) ask: Ask,
+    // The fitting requests after the ask.
+    pub(crate) requests: List<Request>,
+    // How many answers an event holds from now on.
+    pub(crate) chunk: u32,
+    pub(crate) rest: Rest,
+    // The stops that are still to be told, each with its step.
+    pub(crate) left: VecDeque<(u64, Stop)>,
+}
+
+// Where a pengine rests.
+#[derive(Debug, Drop)]
+pub(crate) enum Place {
+    Free,
+    Asked(Query),
+    Closed,
+}
+
+// Where a pengine rests after a request, and the events that the request brought.
+#[derive(Debug, Drop)]
+pub(crate) struct Outcome {
+    pub(crate) place: Place,
+    pub(crate) events: List<Event>,
+}
+
+// A query ends, and the pengine too where it is to be destroyed.
+pub(crate) fn end(destroys: bool, mut events: List<Event>) -> Result<Outcome, Memory>
+    ensures reading { IfOk result (λ o. (spec : Spec) → reading_at spec o ≡ closes destroys events) }
+    ensures stands { IfOk result (λ o. (spec : Spec) → Stands spec o.place) }
+{
+    if !destroys {
+        let place = Place::Free;
+        return Ok(Outcome { place, events });
+    }
+    events.push(Event::Destroy)?;
+    Ok(Outcome {
+        place: Place::Closed,
+        events,
+    })
+}
+
+impl Query {
+    // The query rests, or it has ended.
+    pub(crate) fn settle(self, destroys: bool, events: List<Event>) -> Result<Outcome, Memory>
+        ensures reading { IfOk result (λ o. (spec : Spec) → spec.destroys ≡ destroys → reading_at spec o ≡ comes_to spec (query_at self) self.rest events) }
+        ensures stands { IfOk result (λ o. (spec : Spec) → IsRead spec self → Stands spec o.place) }
+    {
+        match self.rest {
+            Rest::Over => end(destroys, events),
+            Rest::More | Rest::Prompting => {
+                let place = Place::Asked(self);
+                Ok(Outcome { place, events })
+            }
+        }
+    }
+
+    // The query goes on after a request that fits.
+    pub(crate) fn go_on(
+        self,
+        alloc: Global,
+        destroys: bool,
+        request: Request,
+    ) -> Result<Outcome, Memory>
+        requires { fit self.rest request ≡ GoesOn }
+        ensures reading { IfOk result (λ o. (spec : Spec) → spec.destroys ≡ destroys → IsRead spec self → reading_at spec o ≡ gives_all_at spec (In (further (query_at self) request) (length (events_of spec (query_at self)))) []) }
+        ensures stands { IfOk result (λ o. (spec : Spec) → IsRead spec self → Stands spec o.place) }
+    {
+        let Query {
+            ask,
+            mut requests,
+            chunk,
+            rest: _,
+            left,
+        } = self;
+        let chunk = request.chunk_after(chunk);
+        requests.push(request)?;
+        let Piece { events, rest, left } = read_piece(alloc, chunk, left)?;
+        let query = Query {
+            ask,
+            requests,
+            chunk,
+            rest,
+            left,
+        };
+        let outcome = query.settle(destroys, events)?;
+        Ok(outcome)
+    }
+}
+
+// How many answers an event of a query holds.
+fn first_chunk(settings: Settings, ask: &Ask) -> u32
+    ensures { result ≡ chunk_of settings ask.now }
+{
+    if ask.chunk == 0 {
+        settings.chunk
+    } else {
+        ask.chunk
+    }
+}
+
+// A query begins.
+pub(crate) fn begin(
+    alloc: Global,
+    program: &Program,
+    settings: Settings,
+    ask: Ask,
+) -> Result<Outcome, Memory>
+    ensures reading { IfOk result (λ o. reading_at (spec_of program.now settings) o ≡ gives_all_at (spec_of program.now settings) (In (record { asked = ask; requests = [] }) 0) []) }
+    ensures stands { IfOk result (λ o. Stands (spec_of program.now settings) o.place) }
+{
+    let chunk = first_chunk(settings, &ask);
+    let stops = stops_of(alloc, program, &ask, settings.limit)?;
+    let Piece { events, rest, left } = read_piece(alloc, chunk, stops)?;
+    let query = Query {
+        ask,
+        requests: List::new(alloc),
+        chunk,
+        rest,
+        left,
+    };
+    let outcome = query.settle(settings.destroys, events)?;
+    Ok(outcome)
+}

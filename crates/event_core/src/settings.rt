@@ -1,0 +1,21 @@
+use crate::limits::DEFAULT_LIMIT;
+
+/// What a pengine is made with.
+#[derive(Clone, Copy, Debug, Drop, PartialEq, Eq)]
+pub struct Settings {
+    /// How many answers an event holds where an ask names no number; from 1 to 1,000.
+    pub chunk: u32,
+    /// How many steps each query may make; from 1 to `MAX_LIMIT`.
+    pub limit: u64,
+    /// Whether the pengine is destroyed at the end of a query.
+    pub destroys: bool,
+}
+
+impl Settings {
+    /// One answer an event, the default limit of steps, and the pengine is destroyed at the end of its first query.
+    pub const DEFAULT: Settings = Settings {
+        chunk: 1,
+        limit: DEFAULT_LIMIT,
+        destroys: true,
+    };
+}

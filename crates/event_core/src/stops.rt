@@ -1,0 +1,155 @@
+// The stops of a query, read from its trace.
+ghost use Rattle.std.specs.Prelude.{◌≡◌, ℕ, List as list, true, false, [], ◌∷◌, ◌++◌, IfOk, OnOk, if◌then◌else◌};
+ghost use Rattle.event_core.specs.declared.stop.Stop.TheVariants as stop;
+ghost use Rattle.solve_model.specs.Trace.{world_of};
+ghost use Rattle.event_core.specs.Texts.{quoted};
+ghost use Rattle.event_core.specs.Fits.{fits};
+ghost use Rattle.event_core.specs.Stops.{is_followed, mark_stop, at_end, end_stop, stops_of, resource_error, stop_fits, cut_at, trace_stops, stops};
+
+use crate::request::Ask;
+use crate::stop::Stop;
+use crate::text::fits;
+use solve_model::{Program, Trace, TraceEnd, TraceMark, trace};
+use std::alloc::Global;
+use std::collections::VecDeque;
+use term_core::{List, Memory, Term};
+
+// Whether something may follow.
+fn goes_on(mark: &TraceMark) -> bool
+    ensures { result ≡ is_followed mark.now }
+{
+    match mark {
+        TraceMark::Answer { more, .. } => *more,
+        TraceMark::Output(_) | TraceMark::Prompt(_) => true,
+    }
+}
+
+fn stop_of_mark(alloc: Global, mark: TraceMark) -> Result<Stop, Memory>
+    ensures { IfOk result (λ s. s ≡ mark_stop mark) }
+{
+    match mark {
+        TraceMark::Answer { term, more } => Ok(Stop::Found(term.numbered(alloc)?, more)),
+        TraceMark::Output(term) => Ok(Stop::Output(term.numbered(alloc)?)),
+        TraceMark::Prompt(term) => Ok(Stop::Prompt(term.numbered(alloc)?)),
+    }
+}
+
+fn stop_of_end(alloc: Global, end: TraceEnd) -> Result<Option<Stop>, Memory>
+    ensures { IfOk result (λ s. s ≡ end_stop end) }
+{
+    match end {
+        TraceEnd::Failed => Ok(Some(Stop::NoMore)),
+        TraceEnd::Thrown(ball) => Ok(Some(Stop::Ball(ball.numbered(alloc)?))),
+        TraceEnd::Waits => Ok(None),
+        TraceEnd::Spent => Ok(Some(Stop::Limit)),
+        TraceEnd::Outside(indicator) => Ok(Some(Stop::Outside(indicator))),
+    }
+}
+
+// Whether the term of a stop fits an event, if it has one.
+fn tells_what_fits(alloc: Global, told: &Stop) -> Result<bool, Memory>
+    ensures { IfOk result (λ b. b ≡ stop_fits (fits quoted) told.now) }
+{
+    match told {
+        Stop::Found(term, _) => fits(alloc, term),
+        Stop::Output(term) | Stop::Prompt(term) | Stop::Ball(term) => fits(alloc, term),
+        Stop::NoMore | Stop::Limit | Stop::Outside(_) => Ok(true),
+    }
+}
+
+// The ball in place of a term that doesn't fit an event.
+fn too_large(alloc: Global) -> Result<Stop, Memory>
+    ensures { IfOk result (λ s. s ≡ stop.Ball resource_error) }
+{
+    let text = [Term::atom(alloc, "text")?];
+    Ok(Stop::Ball(Term::comp(alloc, "resource_error", &text)?))
+}
+
+// Puts a stop behind the others, or the ball in its place; answers whether it fits.
+fn add(
+    alloc: Global,
+    stops: &mut VecDeque<(u64, Stop)>,
+    step: u64,
+    told: Stop,
+) -> Result<bool, Memory>
+    ensures fits { IfOk result (λ b. b ≡ stop_fits (fits quoted) told) }
+    ensures stops { IfOk result (λ b. stops.new.items ≡ stops.old.items ++ (step, (if b then told else stop.Ball resource_error)) ∷ []) }
+{
+    let fits = tells_what_fits(alloc, &told)?;
+    let told = if fits { told } else { too_large(alloc)? };
+    stops.push_back((step, told))?;
+    Ok(fits)
+}
+
+// Puts the stop of a mark behind the others; answers whether another may follow.
+fn add_mark(
+    alloc: Global,
+    stops: &mut VecDeque<(u64, Stop)>,
+    step: u64,
+    mark: TraceMark,
+) -> Result<bool, Memory>
+    ensures followed { IfOk result (λ b. b ≡ true → (ms : list (ℕ × TraceMark)) (end : list (ℕ × Stop)) → stops.new.items ++ cut_at (fits quoted) (stops_of ms end) ≡ stops.old.items ++ cut_at (fits quoted) (stops_of ((step, mark) ∷ ms) end)) }
+    ensures last { IfOk result (λ b. b ≡ false → (ms : list (ℕ × TraceMark)) (end : list (ℕ × Stop)) → stops.new.items ≡ stops.old.items ++ cut_at (fits quoted) (stops_of ((step, mark) ∷ ms) end)) }
+{
+    let more = goes_on(&mark);
+    let told = stop_of_mark(alloc, mark)?;
+    let fits = add(alloc, stops, step, told)?;
+    Ok(fits && more)
+}
+
+// Puts the stop of an end, where it has one, behind the others.
+fn add_end(
+    alloc: Global,
+    stops: &mut VecDeque<(u64, Stop)>,
+    step: u64,
+    end: TraceEnd,
+) -> Result<(), Memory>
+    ensures { OnOk result (stops.new.items ≡ stops.old.items ++ cut_at (fits quoted) (at_end step (end_stop end))) }
+{
+    if let Some(told) = stop_of_end(alloc, end)? {
+        add(alloc, stops, step, told)?;
+    }
+    Ok(())
+}
+
+// Puts the stops of the marks behind the others; answers whether another may follow.
+fn add_marks(
+    alloc: Global,
+    stops: &mut VecDeque<(u64, Stop)>,
+    marks: List<(u64, TraceMark)>,
+) -> Result<bool, Memory>
+    ensures followed { IfOk result (λ b. b ≡ true → (end : list (ℕ × Stop)) → stops.new.items ++ cut_at (fits quoted) end ≡ stops.old.items ++ cut_at (fits quoted) (stops_of marks end)) }
+    ensures last { IfOk result (λ b. b ≡ false → (end : list (ℕ × Stop)) → stops.new.items ≡ stops.old.items ++ cut_at (fits quoted) (stops_of marks end)) }
+{
+    for (step, mark) in marks.into_vec() {
+        if !add_mark(alloc, stops, step, mark)? {
+            return Ok(false);
+        }
+    }
+    Ok(true)
+}
+
+// The stops of a trace, each with its step.
+fn read_trace(alloc: Global, trace: Trace) -> Result<VecDeque<(u64, Stop)>, Memory>
+    ensures { IfOk result (λ v. v.items ≡ cut_at (fits quoted) (trace_stops trace)) }
+{
+    let mut stops = VecDeque::new(alloc);
+    if add_marks(alloc, &mut stops, trace.marks)? {
+        add_end(alloc, &mut stops, trace.steps, trace.end)?;
+    }
+    Ok(stops)
+}
+
+// The stops of a query without replies, each with its step.
+pub(crate) fn stops_of(
+    alloc: Global,
+    program: &Program,
+    ask: &Ask,
+    limit: u64,
+) -> Result<VecDeque<(u64, Stop)>, Memory>
+    ensures { IfOk result (λ v. v.items ≡ stops (fits quoted) (world_of program.now [] limit) ask.now.goal ask.now.template) }
+{
+    let trace = trace(alloc, program, &ask.goal, &ask.template, &[], limit)?;
+    let stops = read_trace(alloc, trace)?;
+    Ok(stops)
+}
