@@ -1,0 +1,10 @@
+-- Why a session ended, from why its input ended.
+use Rattle.pengines.specs.declared.input.InputStop.{InputStop}
+use Rattle.pengines.specs.declared.input.InputStop.TheVariants as input
+use Rattle.pengines.specs.declared.session.SessionStop.{SessionStop}
+use Rattle.pengines.specs.declared.session.SessionStop.TheVariants.{TooLong, ReadFault, Memory}
+
+abbrev pub stop_of_input : InputStop → SessionStop
+stop_of_input input.TooLong = TooLong
+stop_of_input input.ReadFault = ReadFault
+stop_of_input input.Memory = Memory

@@ -1,0 +1,180 @@
+// The command `session`: reads a script and prints its lines.
+ghost use Rattle.std.specs.Prelude.{◌≡◌, ◌≤◌, ◌⊎◌, ◌++◌, [], ◌∷◌, IfOk, OnOk, IsErrOf};
+ghost use Rattle.std.specs.Io.KnownBytes.{Appends};
+ghost use Rattle.outside.specs.Faults.{Rose};
+ghost use Rattle.pengines.specs.Output.{AppendsPart, AppendsLines, SaysMemory, line, text_of_lines};
+ghost use Rattle.pengines.specs.Session.{Done, DonePart, DoneToMemory, IsTooLong, IsNotBuilt, Unchanged};
+
+use crate::input::{InputStop, read_input};
+use crate::output::{WriteFault, say, write_all};
+use crate::printing::Printing;
+use crate::script::read_script;
+use outside::{Sink, Source};
+use std::alloc::Global;
+use term_core::Memory;
+
+/// Why a session ended before its last line.
+#[derive(Clone, Copy, Debug, PartialEq, Eq)]
+pub enum SessionStop {
+    /// The input has more than 16,777,216 bytes.
+    TooLong,
+    /// The input is no script, or none that is built yet.
+    NotBuilt,
+    /// The source failed.
+    ReadFault,
+    /// The sink failed.
+    WriteFault,
+    /// Want of memory, the pengine's own included.
+    Memory,
+}
+
+impl From<InputStop> for SessionStop {
+    ghost use Rattle.std.specs.Prelude.{◌≡◌};
+    ghost use Rattle.pengines.specs.Stop.{stop_of_input};
+
+    ghost from_gives = { λ stop s. s ≡ stop_of_input stop };
+
+    fn from(stop: InputStop) -> SessionStop {
+        match stop {
+            InputStop::TooLong => SessionStop::TooLong,
+            InputStop::ReadFault => SessionStop::ReadFault,
+            InputStop::Memory => SessionStop::Memory,
+        }
+    }
+}
+
+impl From<Memory> for SessionStop {
+    ghost use Rattle.std.specs.Prelude.{◌≡◌};
+    ghost use Rattle.pengines.specs.declared.session.SessionStop.TheVariants.{Memory};
+
+    ghost from_gives = { λ _ s. s ≡ Memory };
+
+    fn from(_: Memory) -> SessionStop {
+        SessionStop::Memory
+    }
+}
+
+/// Why printing ended before the last line.
+#[derive(Clone, Copy, Debug, PartialEq, Eq)]
+enum PrintStop {
+    WriteFault,
+    Memory,
+}
+
+impl From<WriteFault> for PrintStop {
+    ghost use Rattle.std.specs.Prelude.{◌≡◌};
+    ghost use Rattle.pengines.specs.declared.session.PrintStop.TheVariants.{WriteFault};
+
+    ghost from_gives = { λ _ e. e ≡ WriteFault };
+
+    fn from(_: WriteFault) -> PrintStop {
+        PrintStop::WriteFault
+    }
+}
+
+impl From<Memory> for PrintStop {
+    ghost use Rattle.std.specs.Prelude.{◌≡◌};
+    ghost use Rattle.pengines.specs.declared.session.PrintStop.TheVariants.{Memory};
+
+    ghost from_gives = { λ _ e. e ≡ Memory };
+
+    fn from(_: Memory) -> PrintStop {
+        PrintStop::Memory
+    }
+}
+
+/// Runs the command: reads the whole source, and then prints the script's lines as they come.
+///
+/// Nothing is written before the script is accepted. Where memory is wanting after that, the
+/// pengine's own event `memory` is the last line, in place of those that would follow.
+pub fn run_session<S: Source, K: Sink>(
+    alloc: Global,
+    src: &mut S,
+    out: &mut K,
+) -> Result<(), SessionStop>
+    ensures done { OnOk result (Done S.left K.taken src.old src.new out.old out.new) }
+
+    ensures too_long { IsErrOf result SessionStop.TooLong →
+        IsTooLong S.left src.old src.new
+        × Unchanged K.taken out.old out.new }
+
+    ensures not_built { IsErrOf result SessionStop.NotBuilt →
+        IsNotBuilt S.left src.old src.new
+        × Unchanged K.taken out.old out.new }
+
+    ensures read_fault { IsErrOf result SessionStop.ReadFault →
+        Rose (S.faults src.old) (S.faults src.new)
+        × Unchanged K.taken out.old out.new }
+
+    ensures write_fault { IsErrOf result SessionStop.WriteFault →
+        Rose (K.faults out.old) (K.faults out.new)
+        × DonePart S.left K.taken src.old src.new out.old out.new }
+
+    ensures memory { IsErrOf result SessionStop.Memory →
+        Unchanged K.taken out.old out.new
+        ⊎ DoneToMemory S.left K.taken K.faults src.old src.new out.old out.new }
+{
+    let input = read_input(alloc, src)?;
+    let Some(script) = read_script(alloc, &input)? else {
+        return Err(SessionStop::NotBuilt);
+    };
+    let printing = Printing::new(alloc, script)?;
+    match print_script(alloc, printing, out) {
+        Ok(()) => Ok(()),
+        Err(PrintStop::WriteFault) => Err(SessionStop::WriteFault),
+        Err(PrintStop::Memory) => Err(SessionStop::Memory),
+    }
+}
+
+/// Prints a script's lines, or some first ones and the line `memory` where memory is wanting.
+fn print_script<K: Sink>(
+    alloc: Global,
+    mut printing: Printing,
+    out: &mut K,
+) -> Result<(), PrintStop>
+    ensures done { OnOk result
+        (Appends (K.taken out.old) (K.taken out.new) (text_of_lines printing)) }
+    ensures write_fault { IsErrOf result PrintStop.WriteFault →
+        Rose (K.faults out.old) (K.faults out.new)
+        × AppendsPart (K.taken out.old) (K.taken out.new) (text_of_lines printing) }
+    ensures memory { IsErrOf result PrintStop.Memory →
+        SaysMemory K.taken K.faults out.old out.new printing }
+{
+    match print_lines(alloc, &mut printing, out) {
+        Err(PrintStop::Memory) => {
+            say(out, b"memory\n");
+            Err(PrintStop::Memory)
+        }
+        printed => printed,
+    }
+}
+
+/// Prints a script's lines, each in one call of `write_all`, until memory is wanting.
+fn print_lines<K: Sink>(
+    alloc: Global,
+    printing: &mut Printing,
+    out: &mut K,
+) -> Result<(), PrintStop>
+    ensures done { OnOk result
+        (Appends (K.taken out.old) (K.taken out.new) (text_of_lines printing.old)) }
+    ensures write_fault { IsErrOf result PrintStop.WriteFault →
+        Rose (K.faults out.old) (K.faults out.new)
+        × AppendsPart (K.taken out.old) (K.taken out.new) (text_of_lines printing.old) }
+    ensures memory { IsErrOf result PrintStop.Memory →
+        AppendsLines (K.taken out.old) (K.taken out.new) printing.old }
+    ensures counted { K.faults out.old ≤ K.faults out.new }
+{
+    while let Some(text) = printing.next_line(alloc)? {
+        let line = with_line_end(text)?;
+        write_all(out, &line)?;
+    }
+    Ok(())
+}
+
+/// A text and its line end.
+fn with_line_end(mut text: Vec<u8>) -> Result<Vec<u8>, Memory>
+    ensures { IfOk result (λ l. l.items ≡ line text.items) }
+{
+    text.push(b'\n')?;
+    Ok(text)
+}

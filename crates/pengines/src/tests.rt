@@ -1,0 +1,255 @@
+// The top call over sources and sinks in memory, with calls that fail.
+ghost use Rattle.std.specs.Prelude.{Some};
+
+use crate::run::run_plain;
+use outside::{MemSink, MemSource, Sink, Wrote};
+use std::alloc::Global;
+use std::process::Abort;
+use std::test::Fail;
+
+/// A sink that takes a byte at a time.
+#[derive(Drop)]
+struct Narrow {
+    inner: MemSink,
+}
+
+impl Sink for Narrow {
+    ghost taken = { λ s. Some s.inner.taken };
+
+    ghost faults = { λ s. s.inner.faults };
+
+    fn write(&mut self, piece: &[u8]) -> Wrote {
+        self.inner.write(&piece[..1])
+    }
+}
+
+#[derive(Clone, Copy)]
+struct Case {
+    name: &'static str,
+    word: &'static str,
+    input: &'static [u8],
+    read_fails: &'static [u64],
+    write_fails: &'static [u64],
+    err_fails: &'static [u64],
+    status: u8,
+    written: &'static [u8],
+    said: &'static [u8],
+}
+
+/// A script that is done, with no call that fails.
+const DONE: Case = Case {
+    name: "three facts",
+    word: "session",
+    input: b"p(a). p(b). p(c).\n---\nask(p(X))\nnext\nnext\n",
+    read_fails: &[],
+    write_fails: &[],
+    err_fails: &[],
+    status: 0,
+    written: b"create\nsuccess([p(a)],true)\nsuccess([p(b)],true)\nsuccess([p(c)],false)\ndestroy\n",
+    said: b"",
+};
+
+const REFUSED: Case = Case {
+    status: 3,
+    written: b"",
+    said: b"pengines: not built\n",
+    ..DONE
+};
+
+const CASES: [Case; 25] = [
+    DONE,
+    Case {
+        name: "rules",
+        input: b"p(X) :- q(X), r(X). q(a). q(b). r(b).\n---\nask(p(X))\n",
+        written: b"create\nsuccess([p(b)],false)\ndestroy\n",
+        ..DONE
+    },
+    Case {
+        name: "stop",
+        input: b"p(a). p(b). p(c).\n---\nask(p(X))\nstop\n",
+        written: b"create\nsuccess([p(a)],true)\nstop\ndestroy\n",
+        ..DONE
+    },
+    Case {
+        name: "a request after the end",
+        input: b"p(a). p(b). p(c).\n---\nask(p(c))\nnext\n",
+        written: b"create\nsuccess([p(c)],false)\ndestroy\nended\n",
+        ..DONE
+    },
+    Case {
+        name: "a request that doesn't fit, an unknown predicate",
+        input: b"---\nnext\nask(zap(a))\n",
+        written: b"create\nerror(protocol_error(next))\nerror(error(existence_error(procedure,zap/1),none))\ndestroy\n",
+        ..DONE
+    },
+    Case {
+        name: "an ask and a stop that don't fit",
+        input: b"p(a). p(b).\n---\nstop\nask(p(X))\nask(p(a))\nnext",
+        written: b"create\nerror(protocol_error(stop))\nsuccess([p(a)],true)\nerror(protocol_error(ask))\nsuccess([p(b)],false)\ndestroy\n",
+        ..DONE
+    },
+    Case {
+        name: "the limit of steps",
+        input: b"l :- l.\n---\nask(l)\n",
+        written: b"create\nlimit\ndestroy\n",
+        ..DONE
+    },
+    Case {
+        name: "failure, a variable that stays, the occurs check",
+        input: b"same(X, X). wrap(X, f(X)).\nc :- same(A, B), wrap(A, B).\n---\nask(c)\n",
+        written: b"create\nfailure\ndestroy\n",
+        ..DONE
+    },
+    Case {
+        name: "variables are numbered anew",
+        input: b"p(X, _, f(X)).\n---\n ask( p(A,B,C) ) \n",
+        written: b"create\nsuccess([p(_0,_1,f(_0))],false)\ndestroy\n",
+        ..DONE
+    },
+    Case {
+        name: "no request",
+        input: b"p(a).\n---",
+        written: b"create\n",
+        ..DONE
+    },
+    Case {
+        name: "other word",
+        word: "sessions",
+        status: 2,
+        written: b"",
+        said: b"usage: pengines session\n",
+        ..DONE
+    },
+    Case {
+        name: "nothing",
+        input: b"",
+        ..REFUSED
+    },
+    Case {
+        name: "no rule",
+        input: b"p(a).\nask(p(a))\n",
+        ..REFUSED
+    },
+    Case {
+        name: "an unclosed clause",
+        input: b"p(a.\n---\nask(p(a))\n",
+        ..REFUSED
+    },
+    Case {
+        name: "a head that is built in",
+        input: b"true :- p.\n---\n",
+        ..REFUSED
+    },
+    Case {
+        name: "an operator in place of a name",
+        input: b"mod(a).\n---\n",
+        ..REFUSED
+    },
+    Case {
+        name: "no request of this form",
+        input: b"p(a).\n---\nask(p(a))\nagain\n",
+        ..REFUSED
+    },
+    Case {
+        name: "an ask of a variable",
+        input: b"p(a).\n---\nask(X)\n",
+        ..REFUSED
+    },
+    Case {
+        name: "an empty request line",
+        input: b"p(a).\n---\nask(p(a))\n\nnext\n",
+        ..REFUSED
+    },
+    Case {
+        name: "a carriage return",
+        input: b"p(a).\r\n---\r\nask(p(a))\r\n",
+        ..REFUSED
+    },
+    Case {
+        name: "no text, and the refusal is lost",
+        input: b"p(a).\n---\nask(p(\x80))\n",
+        err_fails: &[1],
+        said: b"",
+        ..REFUSED
+    },
+    Case {
+        name: "second read fails",
+        read_fails: &[2],
+        status: 4,
+        written: b"",
+        said: b"pengines: read fault\n",
+        ..DONE
+    },
+    Case {
+        name: "first write fails",
+        write_fails: &[1],
+        status: 5,
+        written: b"",
+        said: b"pengines: write fault\n",
+        ..DONE
+    },
+    Case {
+        name: "eighth byte fails, and the word of it is lost",
+        write_fails: &[8],
+        err_fails: &[1],
+        status: 5,
+        written: b"create\n",
+        ..DONE
+    },
+    Case {
+        name: "a doubled term",
+        input: b"t(X) :- t(n(X, X)).\n---\nask(t(a))\n",
+        status: 7,
+        written: b"create\nmemory\n",
+        said: b"pengines: no memory\n",
+        ..DONE
+    },
+];
+
+fn run_case(rt: &impl Abort, alloc: Global, case: &Case) -> Result<(), Fail> {
+    let words = vec![in alloc; String::from_str(alloc, case.word)?]?;
+    let mut src = MemSource::new(alloc, case.input, 1, case.read_fails)?;
+    let mut out = Narrow {
+        inner: MemSink::new(alloc, case.write_fails)?,
+    };
+    let mut err = MemSink::new(alloc, case.err_fails)?;
+    let status = run_plain(alloc, &words, &mut src, &mut out, &mut err);
+    let name = case.name;
+    assert_eq!(rt; status, case.status, "{name}");
+    assert_eq!(rt; out.inner.taken(), case.written, "{name}");
+    assert_eq!(rt; err.taken(), case.said, "{name}");
+    Ok(())
+}
+
+#[test]
+fn each_status_has_its_text(rt: HostRuntime) -> Result<(), Fail> {
+    for case in &CASES {
+        run_case(&rt, rt.alloc(), case)?;
+    }
+    Ok(())
+}
+
+#[test]
+fn no_words_are_refused(rt: HostRuntime) -> Result<(), Fail> {
+    let alloc = rt.alloc();
+    let mut src = MemSource::new(alloc, b"ab", 1, &[])?;
+    let mut out = MemSink::new(alloc, &[])?;
+    let mut err = MemSink::new(alloc, &[])?;
+    assert_eq!(rt; run_plain(alloc, &[], &mut src, &mut out, &mut err), 2);
+    assert_eq!(rt; src.left(), b"ab".as_slice());
+    Ok(())
+}
+
+#[test]
+fn a_long_input_is_refused(rt: HostRuntime) -> Result<(), Fail> {
+    let alloc = rt.alloc();
+    let words = vec![in alloc; String::from_str(alloc, "session")?]?;
+    let bytes = vec![in alloc; b'a'; 16_777_217]?;
+    let mut src = MemSource::new(alloc, &bytes, 100_000, &[])?;
+    let mut out = MemSink::new(alloc, &[])?;
+    let mut err = MemSink::new(alloc, &[])?;
+    assert_eq!(rt; run_plain(alloc, &words, &mut src, &mut out, &mut err), 3);
+    assert_eq!(rt; out.taken(), b"".as_slice());
+    assert_eq!(rt; err.taken(), b"pengines: input too long\n".as_slice());
+    Ok(())
+}
