@@ -253,3 +253,25 @@ fn a_long_input_is_refused(rt: HostRuntime) -> Result<(), Fail> {
     assert_eq!(rt; err.taken(), b"pengines: input too long\n".as_slice());
     Ok(())
 }
+
+#[test]
+fn a_term_too_deep_for_an_event_is_an_error(rt: HostRuntime) -> Result<(), Fail> {
+    let alloc = rt.alloc();
+    let words = vec![in alloc; String::from_str(alloc, "session")?]?;
+    let mut script = b"big(".to_vec(alloc)?;
+    for turn in 0..999 {
+        script.extend_from_slice(b"f(")?;
+    }
+    script.extend_from_slice(b"a")?;
+    for turn in 0..999 {
+        script.extend_from_slice(b")")?;
+    }
+    script.extend_from_slice(b"). w(g(X)) :- big(X).\n---\nask(w(Y))\n")?;
+    let mut src = MemSource::new(alloc, &script, 100, &[])?;
+    let mut out = MemSink::new(alloc, &[])?;
+    let mut err = MemSink::new(alloc, &[])?;
+    assert_eq!(rt; run_plain(alloc, &words, &mut src, &mut out, &mut err), 0);
+    let lines = b"create\nerror(resource_error(text))\ndestroy\n";
+    assert_eq!(rt; out.taken(), lines.as_slice());
+    Ok(())
+}
