@@ -18,6 +18,3 @@ pub use laws::{marks_stand, more_only_adds};
 pub use program::Program;
 pub use solver::trace;
 pub use work::MAX_WORK;
-
-#[cfg(test)]
-mod tests;
