@@ -6,6 +6,7 @@ use Rattle.term_core.specs.Tree.{Tree}
 use Rattle.op_table.specs.Table.{Table}
 use Rattle.prolog_lex.specs.declared.token.LexFault.{LexFault}
 use Rattle.prolog_lex.specs.declared.token.LexFault.TheVariants.{BadChar, Unclosed, FloatToken, IntRange}
+use Rattle.prolog_lex.specs.declared.token.LexFault.TheVariants as lexer
 use Rattle.prolog_lex.specs.Lexed.{tokens_of}
 use Rattle.prolog_grammar.specs.declared.grammar.fault.Fault.{Fault}
 use Rattle.prolog_grammar.specs.declared.grammar.fault.Fault.TheVariants as grammar
@@ -34,6 +35,11 @@ lex_fault f = by f.reason
     by unclosed = Unclosed f.at
     by float_number = FloatToken f.at
     by out_of_range = IntRange f.at
+
+-- a fault of the lexer's call
+abbrev pub of_lexer : LexFault → ReadFault
+of_lexer lexer.Memory = Memory
+of_lexer f = Lex f
 
 -- the grammar's fault, where an integer out of range is one of the tokens
 abbrev pub fault_of : Fault → ReadFault
