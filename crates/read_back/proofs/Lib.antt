@@ -1,0 +1,4 @@
+mod Classes
+mod Fronts
+mod Quotes
+mod Segments
