@@ -1,4 +1,7 @@
 mod Classes
+pub mod Fitting
+pub mod Forms
 mod Fronts
+pub mod Ops
 mod Quotes
 mod Segments

@@ -1,0 +1,2 @@
+//! What is written is read again.
+#![tactic(auto)]
