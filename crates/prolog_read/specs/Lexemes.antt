@@ -39,6 +39,11 @@ is_pair open_list_token close_list_token = true
 is_pair open_curly_token close_curly_token = true
 is_pair _ _ = false
 
+-- a bracket at the head of these tokens is closed at once
+abbrev pub begins_with_pair : List Token → Bool
+begins_with_pair (t ∷ u ∷ ts) = is_pair t.kind u.kind
+begins_with_pair _ = false
+
 -- how many brackets are open with a token, its own among them
 abbrev pub open_with : Kind → ℕ → ℕ
 open_with open_token n = suc n

@@ -2,6 +2,7 @@
 use Rattle.std.specs.Prelude.{◌≡◌, ℕ, List, [], ◌∷◌, length, Result, Ok, Err, ⊤}
 use Rattle.term_core.specs.Tokens.{Token, Reason, bad_char, unclosed, float_number, out_of_range}
 use Rattle.term_core.specs.Tokens as lex
+use Rattle.term_core.specs.declared.read_term.ReadTerm.{ReadTerm}
 use Rattle.term_core.specs.Tree.{Tree}
 use Rattle.op_table.specs.Table.{Table}
 use Rattle.prolog_lex.specs.declared.token.LexFault.{LexFault}
@@ -117,3 +118,12 @@ Tells expected Memory = ⊤
 Tells expected (Lex f) = expected ≡ Err (Lex f)
 Tells expected (Syntax at) = expected ≡ Err (Syntax at)
 Tells expected (Nesting at) = expected ≡ Err (Nesting at)
+
+-- a refusal, which isn't want of memory
+abbrev pub IsRefusal : ReadFault → Type 0
+IsRefusal Memory = ⊥
+IsRefusal _ = ⊤
+
+-- what a term that was read is, for definitions
+abbrev pub read_as : ReadTerm → ReadAs
+read_as r = (r.term, r.names)

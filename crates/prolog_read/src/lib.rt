@@ -3,6 +3,12 @@
 
 mod before;
 mod fault;
+mod lexemes;
+mod read;
 mod variables;
 
 pub use fault::ReadFault;
+pub use read::{read_clauses, read_term};
+
+#[cfg(test)]
+mod tests;
