@@ -1,5 +1,5 @@
 -- What each piece of a written term is, and the tokens that it is read as (ISO/IEC 13211-1, 6.4).
-use Rattle.std.specs.Prelude.{◌≡◌, ℕ, suc, ℤ, pos, negsuc, Bool, true, false, not, cond, List, [], ◌∷◌, ◌++◌, is_some, codes, bytes_eq, ⊤}
+use Rattle.std.specs.Prelude.{◌≡◌, ℕ, suc, ◌<◌, ◌^◌, ℤ, pos, negsuc, Bool, true, false, not, cond, List, [], ◌∷◌, ◌++◌, is_some, codes, bytes_eq, ⊤}
 use Rattle.std.specs.Char.{is_ascii_lowercase}
 use Rattle.std.specs.Fmt.{signed_decimal}
 use Rattle.std.specs.Str.{IsUtf8}
@@ -100,8 +100,11 @@ module _ (key : ℕ → ℕ) where
 
 -- ---- items side by side
 
--- names are text, and operators are those of the standard's table
+-- numbers are those of terms, names are text, and operators are those of the standard's table
 abbrev pub IsItem : Item → Type 0
+IsItem (variable_item n) = n < 2 ^ 64
+IsItem (integer_item (pos n)) = n < 2 ^ 127
+IsItem (integer_item (negsuc n)) = n < 2 ^ 127
 IsItem (name_item f) = IsUtf8 f
 IsItem (prefix_item f) = is_some (row f iso_prefix) ≡ true
 IsItem (infix_item f) = is_some (row f iso_infix) ≡ true
