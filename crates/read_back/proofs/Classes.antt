@@ -7,12 +7,12 @@ use Rattle.term_core.specs.Tokens as spec
 use Rattle.prolog_lex.specs.Scanned.{begins_name, continues}
 use Rattle.prolog_write.specs.Text.{is_symbol, is_word}
 
-each_below : (ℕ → Bool) → ℕ → Bool
+unfoldable pub each_below : (ℕ → Bool) → ℕ → Bool
 each_below p zero = true
 each_below p (suc n) = p 0 && each_below (λ k. p (suc k)) n
 
 -- what holds of each number below n, by computing
-at_each : (p : ℕ → Bool) (n : ℕ) → each_below p n ≡ true → (c : ℕ) → c < n → p c ≡ true
+pub at_each : (p : ℕ → Bool) (n : ℕ) → each_below p n ≡ true → (c : ℕ) → c < n → p c ≡ true
 unfolding each_below
 at_each p zero e c l = absurd (omega (arith, l))
 at_each p (suc n) e zero l = (and_parts _ _ e).0

@@ -16,7 +16,7 @@ use Rattle.read_back.proofs.Fronts.{IsToken, ends_quote}
 
 -- ---- a byte of a character past ASCII is written as it is
 
-high : (b : ℕ) → 128 ≤ b → escaped b ≡ b ∷ []
+pub high : (b : ℕ) → 128 ≤ b → escaped b ≡ b ∷ []
 unfolding escaped
 high b l =
     let a : (b == 92) ≡ false = grind (arith, nat_tests) in
