@@ -59,7 +59,7 @@ unfolding iso_infix
 infix_apart = refl
 
 right_of_or : (a b : Bool) → (not a || not b) ≡ true → a ≡ true → b ≡ false
-right_of_or true true e h = e
+right_of_or true true e h = absurd (false≢true e)
 right_of_or true false e h = refl
 right_of_or false b e h = absurd (false≢true h)
 
