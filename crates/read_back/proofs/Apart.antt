@@ -1,5 +1,5 @@
 -- The items of a term side by side: names are text, operators are in the table, and no two operands meet.
-use Rattle.std.specs.Prelude.{◌≡◌, refl, ℕ, ℤ, Bool, true, false, not, cond, ◌&&◌, nat_lt, List, [], ◌∷◌, Option, Some, None, is_some, codes, bytes_eq, ⊤}
+use Rattle.std.specs.Prelude.{◌≡◌, refl, ℕ, ◌<◌, ◌^◌, ℤ, Bool, true, false, not, cond, ◌&&◌, nat_lt, List, [], ◌∷◌, Option, Some, None, is_some, codes, bytes_eq, ⊤}
 use Rattle.std.specs.Str.{IsUtf8}
 use Rattle.std.proofs.Common.{ap}
 use Rattle.std.proofs.lemmas.Bool.{false≢true}
@@ -13,7 +13,7 @@ use Rattle.prolog_write.specs.declared.form.Form.{Form}
 use Rattle.prolog_write.specs.declared.form.Form.TheVariants.{Curly, Cell, Prefix, Infix, Call}
 use Rattle.prolog_write.specs.Text.{form, is_operand, is_operator, most}
 use Rattle.read_back.specs.Sound.{IsSized, HasValues, HaveValues}
-use Rattle.read_back.specs.Spelled.{Mark, Item, variable_item, integer_item, name_item, mark_item, prefix_item, infix_item, open_round, close_round, open_square, close_square, open_curly, close_curly, comma, bar, goes_on, is_close_square, is_close_curly, FollowedBy, AreApart}
+use Rattle.read_back.specs.Spelled.{Mark, is_opening, Item, variable_item, integer_item, name_item, mark_item, prefix_item, infix_item, open_round, close_round, open_square, close_square, open_curly, close_curly, comma, bar, goes_on, is_close_square, is_close_curly, FollowedBy, AreApart}
 use Rattle.read_back.specs.Layout.{Layout, unknown, number, plain, call, round, curly, listed, partial, before, between, Layouts, one, and, in_brackets, with_element, layout, by_form, arguments, items, all_items}
 use Rattle.read_back.proofs.Forms.{IsForm, IsForm-form}
 
@@ -21,7 +21,7 @@ use Rattle.read_back.proofs.Forms.{IsForm, IsForm-form}
 
 unfoldable mutual
   pub Sound : Layout → Type 0
-  Sound (unknown n) = ⊤
+  Sound (unknown n) = n < 2 ^ 64
   Sound (number z) = IsSized z
   Sound (plain f) = IsUtf8 f
   Sound (call f ls) = IsUtf8 f × AllSound ls
@@ -60,7 +60,7 @@ module _ (m : Mode) where
   mutual
     unfolding layout by_form arguments Sound AllSound
     pub sound : (t : Tree) (at : Place) → HasValues t → Sound (layout m t at)
-    sound (variable n) at h = tt
+    sound (variable n) at h = h
     sound (integer z) at h = h
     sound (atom f) at h = by_brackets (is_operand at && is_operator f) (plain f) h
     sound (compound f ts) at h = sound_form (form m f (arity ts)) f ts at (IsForm-form m f (arity ts)) h.0 h.1
@@ -82,12 +82,6 @@ module _ (m : Mode) where
 
 -- ---- items side by side
 
-is_opening : Mark → Bool
-is_opening open_round = true
-is_opening open_square = true
-is_opening open_curly = true
-is_opening _ = false
-
 begins_operand : Item → Bool
 begins_operand (mark_item k) = is_opening k
 begins_operand (infix_item f) = false
@@ -98,7 +92,7 @@ Begins [] = ⊥
 Begins (x ∷ xs) = begins_operand x ≡ true
 
 mutual
-  unfolding items all_items Begins begins_operand is_opening
+  unfolding items all_items Begins begins_operand
   begins : (l : Layout) (xs : List Item) → Begins (items l xs)
   begins (unknown n) xs = refl
   begins (number z) xs = refl
@@ -128,12 +122,12 @@ wants (infix_item f) = true
 wants _ = false
 
 no_close_square : (y : Item) → begins_operand y ≡ true → not (is_close_square y) ≡ true
-unfolding begins_operand is_opening
+unfolding begins_operand
 no_close_square (mark_item close_square) b = absurd (false≢true b)
 no_close_square y b = refl
 
 no_close_curly : (y : Item) → begins_operand y ≡ true → not (is_close_curly y) ≡ true
-unfolding begins_operand is_opening
+unfolding begins_operand
 no_close_curly (mark_item close_curly) b = absurd (false≢true b)
 no_close_curly y b = refl
 
@@ -179,8 +173,8 @@ closed k xs e c a = (tt, behind_operand (mark_item k) xs e c, a)
 mutual
   unfolding items all_items Sound AllSound AreApart Closes is_end wants
   apart : (l : Layout) (xs : List Item) → Sound l → Closes xs → AreApart xs → AreApart (items l xs)
-  apart (unknown n) xs h c a = (tt, behind_operand (variable_item n) xs refl c, a)
-  apart (number z) xs h c a = (tt, behind_operand (integer_item z) xs refl c, a)
+  apart (unknown n) xs h c a = (h, behind_operand (variable_item n) xs refl c, a)
+  apart (number z) xs h c a = (h, behind_operand (integer_item z) xs refl c, a)
   apart (plain f) xs h c a = (h, behind_operand (name_item f) xs refl c, a)
   apart (call f ls) xs h c a =
       (h.0, refl, opened open_round (all_items ls (mark_item close_round ∷ xs)) (all_begin ls (mark_item close_round ∷ xs))

@@ -2,6 +2,8 @@ pub mod Apart
 pub mod Fitting
 pub mod Forms
 pub mod Meaning
+pub mod Nesting
 pub mod Ops
+pub mod Order
 pub mod Pieces
 pub mod Yields

@@ -1,4 +1,4 @@
--- What the terms of the code are: names are text, integers have 128 bits, compounds have 1 to 1,024 arguments.
+-- What the terms of the code are: a variable's number has 64 bits and an integer 128, names are text, compounds have 1 to 1,024 arguments.
 use Rattle.std.specs.Prelude.{◌≡◌, ℕ, ◌<◌, ◌^◌, ℤ, pos, negsuc, List, ⊤}
 use Rattle.std.specs.Str.{IsUtf8}
 use Rattle.term_core.specs.Tree.{Tree, variable, integer, atom, compound, Trees, no_trees, tree, IsTerm}
@@ -10,7 +10,7 @@ IsSized (negsuc n) = n < 2 ^ 127
 
 abbrev mutual
   pub HasValues : Tree → Type 0
-  HasValues (variable n) = ⊤
+  HasValues (variable n) = n < 2 ^ 64
   HasValues (integer z) = IsSized z
   HasValues (atom f) = IsUtf8 f
   HasValues (compound f ts) = IsUtf8 f × HaveValues ts
