@@ -1,7 +1,6 @@
 -- The items of a term side by side: names are text, operators are in the table, and no two operands meet.
-use Rattle.std.specs.Prelude.{◌≡◌, refl, ℕ, ◌<◌, ◌^◌, ℤ, Bool, true, false, not, cond, ◌&&◌, nat_lt, List, [], ◌∷◌, Option, Some, None, is_some, codes, bytes_eq, ⊤}
+use Rattle.std.specs.Prelude.{◌≡◌, refl, ℕ, ◌<◌, ◌^◌, Bool, true, false, not, cond, ◌&&◌, nat_lt, List, [], ◌∷◌, Option, Some, is_some, codes, bytes_eq, ⊤}
 use Rattle.std.specs.Str.{IsUtf8}
-use Rattle.std.proofs.Common.{ap}
 use Rattle.std.proofs.lemmas.Bool.{false≢true}
 use Rattle.term_core.specs.Tree.{Tree, variable, integer, atom, compound, Trees, no_trees, tree, arity}
 use Rattle.op_table.specs.declared.op.Op.{Op}
@@ -59,6 +58,7 @@ sound_list e l h i = (h, i)
 module _ (m : Mode) where
   mutual
     unfolding layout by_form arguments Sound AllSound
+
     pub sound : (t : Tree) (at : Place) → HasValues t → Sound (layout m t at)
     sound (variable n) at h = h
     sound (integer z) at h = h
@@ -73,7 +73,7 @@ module _ (m : Mode) where
         by_brackets (nat_lt (most at) o.priority) (before f o (layout m t (Operand (right_of o)))) (in_table (row f iso_prefix) o is.1, sound t (Operand (right_of o)) h.0)
     sound_form (Infix o) f (tree t (tree v vs)) at is u h =
         by_brackets (nat_lt (most at) o.priority) (between (layout m t (Operand (left_of o))) f o (layout m v (Operand (right_of o))))
-            (sound t (Operand (left_of o)) h.0, in_table (row f iso_infix) o is.1, sound v (Operand (right_of o)) h.1.0)
+        (sound t (Operand (left_of o)) h.0, in_table (row f iso_infix) o is.1, sound v (Operand (right_of o)) h.1.0)
     sound_form x f ts at is u h = u
 
     all_sound : (l : Layout) (ts : Trees) → Sound l → HaveValues ts → AllSound (arguments m l ts)
@@ -93,6 +93,7 @@ Begins (x ∷ xs) = begins_operand x ≡ true
 
 mutual
   unfolding items all_items Begins begins_operand
+
   begins : (l : Layout) (xs : List Item) → Begins (items l xs)
   begins (unknown n) xs = refl
   begins (number z) xs = refl
@@ -172,13 +173,17 @@ closed k xs e c a = (tt, behind_operand (mark_item k) xs e c, a)
 
 mutual
   unfolding items all_items Sound AllSound AreApart Closes is_end wants
+
   apart : (l : Layout) (xs : List Item) → Sound l → Closes xs → AreApart xs → AreApart (items l xs)
   apart (unknown n) xs h c a = (h, behind_operand (variable_item n) xs refl c, a)
   apart (number z) xs h c a = (h, behind_operand (integer_item z) xs refl c, a)
   apart (plain f) xs h c a = (h, behind_operand (name_item f) xs refl c, a)
-  apart (call f ls) xs h c a =
-      (h.0, refl, opened open_round (all_items ls (mark_item close_round ∷ xs)) (all_begin ls (mark_item close_round ∷ xs))
-          (all_apart ls (mark_item close_round ∷ xs) h.1 refl (closed close_round xs refl c a)))
+  apart (call f ls) xs h c a = (
+    h.0,
+    refl,
+    opened open_round (all_items ls (mark_item close_round ∷ xs)) (all_begin ls (mark_item close_round ∷ xs))
+        (all_apart ls (mark_item close_round ∷ xs) h.1 refl (closed close_round xs refl c a)),
+  )
   apart (round l) xs h c a =
       opened open_round (items l (mark_item close_round ∷ xs)) (begins l (mark_item close_round ∷ xs)) (apart l (mark_item close_round ∷ xs) h refl (closed close_round xs refl c a))
   apart (curly l) xs h c a =
@@ -188,7 +193,7 @@ mutual
   apart (partial ls l) xs h c a =
       let tail = mark_item bar ∷ items l (mark_item close_square ∷ xs) in
       opened open_square (all_items ls tail) (all_begin ls tail)
-          (all_apart ls tail h.0 refl (opened bar (items l (mark_item close_square ∷ xs)) (begins l (mark_item close_square ∷ xs)) (apart l (mark_item close_square ∷ xs) h.1 refl (closed close_square xs refl c a))))
+      (all_apart ls tail h.0 refl (opened bar (items l (mark_item close_square ∷ xs)) (begins l (mark_item close_square ∷ xs)) (apart l (mark_item close_square ∷ xs) h.1 refl (closed close_square xs refl c a))))
   apart (before f o l) xs h c a = (h.0, before_operand (prefix_item f) (items l xs) refl (begins l xs), apart l xs h.1 c a)
   apart (between l f o r) xs h c a =
       apart l (infix_item f ∷ items r xs) h.0 refl (h.1, before_operand (infix_item f) (items r xs) refl (begins r xs), apart r xs h.2 c a)

@@ -1,12 +1,12 @@
 -- How a term is laid out fits the rules of the grammar.
-use Rattle.std.specs.Prelude.{◌≡◌, refl, ℕ, zero, suc, ℤ, pos, negsuc, Bool, true, false, not, cond, ◌&&◌, ◌||◌, nat_le, nat_lt, List, Option, Some, None, codes, bytes_eq}
-use Rattle.std.proofs.Common.{arith, inl, inr, leb}
+use Rattle.std.specs.Prelude.{◌≡◌, refl, ℕ, ℤ, pos, negsuc, Bool, true, false, not, cond, ◌&&◌, ◌||◌, nat_le, nat_lt, List, Some, codes, bytes_eq}
+use Rattle.std.proofs.Common.{arith, inl, inr}
 use Rattle.std.proofs.lemmas.Bool.{false≢true, and_from}
 use Rattle.term_core.specs.Tree.{Tree, variable, integer, atom, compound, Trees, no_trees, tree, arity}
 use Rattle.op_table.specs.declared.op.Op.{Op}
 use Rattle.op_table.specs.declared.op.OpKind.{OpKind}
 use Rattle.op_table.specs.declared.op.OpKind.TheVariants.{Xfx, Xfy, Yfx, Fx, Fy}
-use Rattle.op_table.specs.Table.{iso_prefix, iso_infix, row, left_of, right_of}
+use Rattle.op_table.specs.Table.{left_of, right_of}
 use Rattle.prolog_grammar.specs.declared.grammar.lexeme.Word.{Word}
 use Rattle.prolog_grammar.specs.Readings.{Reading, priority, joins_front, ends}
 use Rattle.prolog_grammar.specs.Readings as g
@@ -87,8 +87,12 @@ module _ (key : ℕ → ℕ) where
   right_atom at f true e =
       record { fits = λ d. (tt, refl); priority = λ d. none_least (most at); apart = λ w. refl; quiet = λ t d h q i l. refl }
   right_atom at f false e =
-      record { fits = λ d. tt; priority = λ d. none_least (most at); apart = λ w. refl
-             ; quiet = λ t d h q i l. or_left (is_operator f) (ends (infix_lexeme h)) (no_operator (is_operand at) (is_operator f) e t) }
+      record {
+        fits = λ d. tt;
+        priority = λ d. none_least (most at);
+        apart = λ w. refl;
+        quiet = λ t d h q i l. or_left (is_operator f) (ends (infix_lexeme h)) (no_operator (is_operand at) (is_operator f) e t);
+      }
 
   closed_list : (at : Place) (ls : Layouts) → Fill ls → Right (listed ls) at
   unfolding g.Fits g.quiet read_as Fill
@@ -166,7 +170,7 @@ module _ (key : ℕ → ℕ) where
     fits = λ d. (r.fits false, e, r.priority false, r.apart (word f));
     priority = λ d. refl;
     apart = λ w. refl;
-    quiet = λ d h p i k. still f h o p (read_as key false l) (inl e) i k (r.priority false) (r.quiet refl false h p i)
+    quiet = λ d h p i k. still f h o p (read_as key false l) (inl e) i k (r.priority false) (r.quiet refl false h p i);
   }
 
   core_infix : (l : Layout) (f : List ℕ) (o : Op) (r : Layout) → between_row f ≡ Some o → Right l (Operand (left_of o)) → Right r (Operand (right_of o)) → Core (between l f o r) o.priority
@@ -177,12 +181,13 @@ module _ (key : ℕ → ℕ) where
         fits = λ c. (s.fits c, t.fits d, row-infix_lexeme f o e, s.priority c, t.priority d, s.quiet refl c f o e (s.priority c));
         priority = λ c. refl;
         apart = s.apart;
-        quiet = λ c h p i k. still f h o p (read_as key d r) (inr e) i k (t.priority d) (t.quiet refl d h p i)
+        quiet = λ c h p i k. still f h o p (read_as key d r) (inr e) i k (t.priority d) (t.quiet refl d h p i);
       }
 
   module _ (m : Mode) where
     mutual
       unfolding layout by_form arguments
+
       pub right : (t : Tree) (at : Place) → Right (layout m t at) at
       right (variable n) at = right_unknown at n
       right (integer z) at = right_number at z
@@ -195,10 +200,10 @@ module _ (key : ℕ → ℕ) where
       right_form Cell f (tree t (tree u us)) at is = right_list at (layout m t Argument) (layout m u Argument) (right t Argument) (right u Argument)
       right_form (Prefix o) f (tree t ts) at is =
           by_brackets at o.priority (before f o (layout m t (Operand (right_of o)))) (nat_lt (most at) o.priority) refl (prefix_small f o is.1)
-              (core_prefix f o (layout m t (Operand (right_of o))) is.1 (right t (Operand (right_of o))))
+          (core_prefix f o (layout m t (Operand (right_of o))) is.1 (right t (Operand (right_of o))))
       right_form (Infix o) f (tree t (tree u us)) at is =
           by_brackets at o.priority (between (layout m t (Operand (left_of o))) f o (layout m u (Operand (right_of o)))) (nat_lt (most at) o.priority) refl (infix_small f o is.1)
-              (core_infix (layout m t (Operand (left_of o))) f o (layout m u (Operand (right_of o))) is.1 (right t (Operand (left_of o))) (right u (Operand (right_of o))))
+          (core_infix (layout m t (Operand (left_of o))) f o (layout m u (Operand (right_of o))) is.1 (right t (Operand (left_of o))) (right u (Operand (right_of o))))
       right_form x f ts at is = right_round at f
 
       right_all : (l : Layout) (ts : Trees) → Right l Argument → Fill (arguments m l ts)

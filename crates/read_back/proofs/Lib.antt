@@ -1,6 +1,8 @@
 pub mod Apart
 pub mod Fitting
 pub mod Forms
+pub mod Grammar
+pub mod Limits
 pub mod Meaning
 pub mod Nesting
 pub mod Ops

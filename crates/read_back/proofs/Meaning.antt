@@ -1,19 +1,18 @@
 -- The reading of a term's layout means the term, with the keys of its variables for their numbers.
-use Rattle.std.specs.Prelude.{◌≡◌, refl, ℕ, ℤ, pos, negsuc, neg_ℤ, ◌≤◌, Bool, true, false, ◌&&◌, cond, nat_lt, List, codes, bytes_eq}
+use Rattle.std.specs.Prelude.{◌≡◌, refl, ℕ, ℤ, pos, negsuc, ◌≤◌, Bool, true, false, ◌&&◌, cond, nat_lt, List, codes, bytes_eq}
 use Rattle.std.proofs.Common.{arith, ap, ◌∙◌, sym}
 use Rattle.term_core.specs.Tree.{Tree, variable, integer, atom, compound, Trees, no_trees, tree, arity, IsTerm, AreTerms}
 use Rattle.term_core.specs.Variables.{map_variables, map_all_variables}
-use Rattle.op_table.specs.declared.op.Op.{Op}
 use Rattle.op_table.specs.Table.{left_of, right_of}
-use Rattle.prolog_grammar.specs.Readings.{Reading, meaning, meanings, cells, pair, dot, nil}
+use Rattle.prolog_grammar.specs.Readings.{meaning, meanings, cells, pair, dot, nil}
 use Rattle.prolog_write.specs.declared.mode.Mode.{Mode}
 use Rattle.prolog_write.specs.declared.place.Place.{Place}
 use Rattle.prolog_write.specs.declared.place.Place.TheVariants.{Whole, Argument, Operand}
 use Rattle.prolog_write.specs.declared.form.Form.{Form}
 use Rattle.prolog_write.specs.declared.form.Form.TheVariants.{Curly, Cell, Prefix, Infix, Call}
 use Rattle.prolog_write.specs.Text.{form, is_operand, is_operator, most}
-use Rattle.read_back.specs.Spelled.{word, is_tight, infix_item}
-use Rattle.read_back.specs.Layout.{Layout, unknown, number, plain, call, round, curly, listed, partial, before, between, Layouts, one, and, in_brackets, with_element, layout, by_form, arguments, integer_reading, read_as, all_read_as}
+use Rattle.read_back.specs.Spelled.{is_tight, infix_item}
+use Rattle.read_back.specs.Layout.{Layout, number, plain, listed, partial, before, between, one, in_brackets, with_element, layout, by_form, arguments, read_as, all_read_as}
 use Rattle.read_back.proofs.Ops.{same_name}
 use Rattle.read_back.proofs.Forms.{IsForm, IsForm-form}
 
@@ -46,6 +45,7 @@ module _ (key : ℕ → ℕ) where
   module _ (m : Mode) where
     mutual
       unfolding layout by_form arguments read_as all_read_as meaning meanings
+
       pub means : (t : Tree) (at : Place) → IsTerm t → Means (layout m t at) (map_variables key t)
       means (variable n) at h d = refl
       means (integer z) at h d = means_integer z d
@@ -66,13 +66,13 @@ module _ (key : ℕ → ℕ) where
       means_form (Prefix o) f no_trees at is some h d = absurd (omega arith)
       means_form (Prefix o) f (tree t no_trees) at is some h d =
           by_brackets (nat_lt (most at) o.priority) (before f o (layout m t (Operand (right_of o)))) (compound f (tree (map_variables key t) no_trees))
-              (λ d. ap (λ u. compound f (tree u no_trees)) (means t (Operand (right_of o)) h.0 false)) d
+          (λ d. ap (λ u. compound f (tree u no_trees)) (means t (Operand (right_of o)) h.0 false)) d
       means_form (Prefix o) f (tree t (tree u us)) at is some h d = absurd (omega arith)
       means_form (Infix o) f no_trees at is some h d = absurd (omega arith)
       means_form (Infix o) f (tree t no_trees) at is some h d = absurd (omega arith)
       means_form (Infix o) f (tree t (tree u no_trees)) at is some h d =
           by_brackets (nat_lt (most at) o.priority) (between (layout m t (Operand (left_of o))) f o (layout m u (Operand (right_of o)))) (compound f (tree (map_variables key t) (tree (map_variables key u) no_trees)))
-              (λ d. rw (means t (Operand (left_of o)) h.0 d, means u (Operand (right_of o)) h.1.0 (is_tight (infix_item f))) refl) d
+          (λ d. rw (means t (Operand (left_of o)) h.0 d, means u (Operand (right_of o)) h.1.0 (is_tight (infix_item f))) refl) d
       means_form (Infix o) f (tree t (tree u (tree v vs))) at is some h d = absurd (omega arith)
 
       means_all : (l : Layout) (t : Tree) (ts : Trees) → Means l t → AreTerms ts → meanings (all_read_as key (arguments m l ts)) ≡ tree t (map_all_variables key ts)

@@ -1,8 +1,8 @@
 -- How many brackets are open at once in the text of a term: at most two more than twice its depth.
-use Rattle.std.specs.Prelude.{◌≡◌, refl, ℕ, suc, ◌+◌, ◌-◌, ◌*◌, ◌≤◌, max, ℤ, pos, negsuc, Bool, true, false, cond, ◌&&◌, ◌==◌, nat_lt, List, [], ◌∷◌, ◌++◌, length, slice_index, codes, bytes_eq}
+use Rattle.std.specs.Prelude.{◌≡◌, refl, ℕ, suc, ◌+◌, ◌-◌, ◌*◌, ◌≤◌, max, pos, negsuc, Bool, true, false, cond, ◌&&◌, nat_lt, List, [], ◌∷◌, length, slice_index, codes, bytes_eq}
 use Rattle.std.specs.List.{AllByRecursion}
 use Rattle.std.proofs.Common.{arith, ap, sym, subst}
-use Rattle.term_core.specs.Tree.{Tree, variable, integer, atom, compound, Trees, no_trees, tree, arity, depth, depths, greatest, is_cell, compound_depth, IsTerm, AreTerms}
+use Rattle.term_core.specs.Tree.{Tree, variable, integer, atom, compound, Trees, no_trees, tree, arity, depth, depths, greatest, is_cell, IsTerm, AreTerms}
 use Rattle.op_table.specs.declared.op.Op.{Op}
 use Rattle.op_table.specs.Table.{left_of, right_of}
 use Rattle.prolog_write.specs.declared.mode.Mode.{Mode}
@@ -49,6 +49,7 @@ module _ (top : ℕ) where
 
   mutual
     unfolding items all_items brackets nesting all_nesting
+
     within : (l : Layout) (n : ℕ) (xs : List Item) → n + nesting l ≤ top → Below top (brackets n xs) → n ≤ top → Below top (brackets n (items l xs))
     within (unknown k) n xs h b s = (s, b)
     within (number (pos k)) n xs h b s = (s, b)
@@ -59,9 +60,11 @@ module _ (top : ℕ) where
     within (round l) n xs h b s = (omega arith, within l (suc n) (mark_item close_round ∷ xs) (omega arith) (omega arith, closed n xs b) (omega arith))
     within (curly l) n xs h b s = (omega arith, within l (suc n) (mark_item close_curly ∷ xs) (omega arith) (omega arith, closed n xs b) (omega arith))
     within (listed ls) n xs h b s = (omega arith, all_within ls (suc n) (mark_item close_square ∷ xs) (omega arith) (omega arith, closed n xs b) (omega arith))
-    within (partial ls l) n xs h b s =
-        (omega arith, all_within ls (suc n) (mark_item bar ∷ items l (mark_item close_square ∷ xs)) (omega arith)
-            (omega arith, within l (suc n) (mark_item close_square ∷ xs) (omega arith) (omega arith, closed n xs b) (omega arith)) (omega arith))
+    within (partial ls l) n xs h b s = (
+      omega arith,
+      all_within ls (suc n) (mark_item bar ∷ items l (mark_item close_square ∷ xs)) (omega arith)
+          (omega arith, within l (suc n) (mark_item close_square ∷ xs) (omega arith) (omega arith, closed n xs b) (omega arith)) (omega arith),
+    )
     within (before f o l) n xs h b s = (s, within l n xs h b s)
     within (between l f o r) n xs h b s = within l n (infix_item f ∷ items r xs) (omega arith) (s, within r n xs (omega arith) b s) s
 
@@ -179,6 +182,7 @@ nesting-between b l f o r = by_brackets b (between l f o r)
 module _ (m : Mode) where
   mutual
     unfolding layout by_form arguments nesting all_nesting
+
     bounded : (t : Tree) (at : Place) → IsTerm t → Bounded (layout m t at) (depth t)
     bounded (variable n) at h = bounded_small (unknown n) (omega arith)
     bounded (integer z) at h = bounded_small (number z) (omega arith)

@@ -38,6 +38,7 @@ met-cells (g.and r rs) t = rw (met-cells rs t, append-nil (all_met rs ++ occurre
 
 mutual
   unfolding items all_items item_variables read_as all_read_as meaning meanings
+
   order : (d : Bool) (l : Layout) (xs : List Item) → item_variables (items l xs) ≡ met (read_as same d l) ++ item_variables xs
   order d (unknown n) xs = refl
   order d (number (pos n)) xs = refl
@@ -50,18 +51,18 @@ mutual
       rw (met-cells (all_read_as same ls) (atom nil), append-nil (all_met (all_read_as same ls))) (all_order ls (mark_item close_square ∷ xs))
   order d (partial ls l) xs =
       rw (met-cells (all_read_as same ls) (meaning (read_as same true l)), append_assoc (all_met (all_read_as same ls)) (met (read_as same true l)) (item_variables xs))
-          (all_order ls (mark_item bar ∷ items l (mark_item close_square ∷ xs)) ∙ ap (λ ns. all_met (all_read_as same ls) ++ ns) (order true l (mark_item close_square ∷ xs)))
+      (all_order ls (mark_item bar ∷ items l (mark_item close_square ∷ xs)) ∙ ap (λ ns. all_met (all_read_as same ls) ++ ns) (order true l (mark_item close_square ∷ xs)))
   order d (before f o l) xs = rw (append-nil (met (read_as same false l))) (order false l xs)
   order d (between l f o r) xs =
       let e = is_tight (infix_item f) in
       rw (append-nil (met (read_as same e r)), append_assoc (met (read_as same d l)) (met (read_as same e r)) (item_variables xs))
-          (order d l (infix_item f ∷ items r xs) ∙ ap (λ ns. met (read_as same d l) ++ ns) (order e r xs))
+      (order d l (infix_item f ∷ items r xs) ∙ ap (λ ns. met (read_as same d l) ++ ns) (order e r xs))
 
   all_order : (ls : Layouts) (xs : List Item) → item_variables (all_items ls xs) ≡ all_met (all_read_as same ls) ++ item_variables xs
   all_order (one l) xs = rw (append-nil (met (read_as same true l))) (order true l xs)
   all_order (and l ls) xs =
       rw (append_assoc (met (read_as same true l)) (all_met (all_read_as same ls)) (item_variables xs))
-          (order true l (mark_item comma ∷ all_items ls xs) ∙ ap (λ ns. met (read_as same true l) ++ ns) (all_order ls xs))
+      (order true l (mark_item comma ∷ all_items ls xs) ∙ ap (λ ns. met (read_as same true l) ++ ns) (all_order ls xs))
 
 pub item_variables-items : (m : Mode) (t : Tree) (at : Place) → IsTerm t → item_variables (items (layout m t at) []) ≡ occurrences t
 unfolding item_variables

@@ -11,8 +11,8 @@ use Rattle.prolog_write.specs.declared.form.Form.{Form}
 use Rattle.prolog_write.specs.declared.form.Form.TheVariants.{Curly, Cell, Prefix, Infix, Call}
 use Rattle.prolog_write.specs.Text.{Piece, piece, mark, prefix_piece, infix_piece, atom_text, form, is_operand, is_operator, most, pieces, more_arguments, rest_of_list, rest_by_form, after_bar}
 use Rattle.prolog_write.specs.Text as text
-use Rattle.read_back.specs.Spelled.{Item, variable_item, integer_item, name_item, mark_item, prefix_item, infix_item, open_round, close_round, open_square, close_square, open_curly, close_curly, comma, bar, piece_of}
-use Rattle.read_back.specs.Layout.{Layout, unknown, number, plain, call, round, curly, listed, partial, before, between, Layouts, one, and, in_brackets, with_element, layout, by_form, arguments, items, all_items}
+use Rattle.read_back.specs.Spelled.{Item, name_item, mark_item, infix_item, open_round, close_round, open_square, close_square, open_curly, close_curly, comma, bar, piece_of}
+use Rattle.read_back.specs.Layout.{Layout, plain, call, round, curly, listed, partial, before, between, one, in_brackets, with_element, layout, by_form, arguments, items, all_items}
 use Rattle.read_back.proofs.Forms.{IsForm, IsForm-form}
 
 -- what stands behind an element, where the rest of its list is laid out so
@@ -85,6 +85,7 @@ module _ (m : Mode) where
 
   mutual
     unfolding layout by_form arguments items all_items rest_items
+
     pub spelled : (t : Tree) (at : Place) → IsTerm t → Spells (items (layout m t at)) (pieces m t at)
     spelled (variable n) at h xs = refl
     spelled (integer z) at h xs = refl
@@ -105,14 +106,14 @@ module _ (m : Mode) where
     spelled_form (Prefix o) f no_trees at is some h xs = absurd (omega arith)
     spelled_form (Prefix o) f (tree t ts) at is some h xs =
         by_brackets (nat_lt (most at) o.priority) (before f o (layout m t (Operand (right_of o)))) (prefix_piece f ∷ pieces m t (Operand (right_of o)))
-            (λ xs. ap (λ ps. prefix_piece f ∷ ps) (spelled t (Operand (right_of o)) h.0 xs)) xs
+        (λ xs. ap (λ ps. prefix_piece f ∷ ps) (spelled t (Operand (right_of o)) h.0 xs)) xs
     spelled_form (Infix o) f no_trees at is some h xs = absurd (omega arith)
     spelled_form (Infix o) f (tree t no_trees) at is some h xs = absurd (omega arith)
     spelled_form (Infix o) f (tree t (tree u us)) at is some h xs =
         by_brackets (nat_lt (most at) o.priority) (between (layout m t (Operand (left_of o))) f o (layout m u (Operand (right_of o))))
-            (pieces m t (Operand (left_of o)) ++ infix_piece f ∷ pieces m u (Operand (right_of o)))
-            (spelled_between (layout m t (Operand (left_of o))) (layout m u (Operand (right_of o))) f o (pieces m t (Operand (left_of o))) (pieces m u (Operand (right_of o)))
-                (spelled t (Operand (left_of o)) h.0) (spelled u (Operand (right_of o)) h.1.0)) xs
+        (pieces m t (Operand (left_of o)) ++ infix_piece f ∷ pieces m u (Operand (right_of o)))
+        (spelled_between (layout m t (Operand (left_of o))) (layout m u (Operand (right_of o))) f o (pieces m t (Operand (left_of o))) (pieces m u (Operand (right_of o)))
+        (spelled t (Operand (left_of o)) h.0) (spelled u (Operand (right_of o)) h.1.0)) xs
 
     -- arguments, the closing bracket, and what follows
     spelled_all : (l : Layout) (ps : List Piece) (ts : Trees) → Spells (items l) ps → AreTerms ts → Spells (λ xs. all_items (arguments m l ts) (mark_item close_round ∷ xs)) (ps ++ more_arguments m ts)
@@ -128,7 +129,7 @@ module _ (m : Mode) where
     spelled_rest (atom f) h xs = rest_atom f (bytes_eq f (codes "[]")) xs
     spelled_rest (compound f ts) h xs =
         spelled_rest_form (form m f (arity ts)) f ts (IsForm-form m f (arity ts)) h.0 h.2
-            (spelled_form (form m f (arity ts)) f ts Argument (IsForm-form m f (arity ts)) h.0 h.2) xs
+        (spelled_form (form m f (arity ts)) f ts Argument (IsForm-form m f (arity ts)) h.0 h.2) xs
 
     spelled_rest_form : (x : Form) (f : List ℕ) (ts : Trees) → IsForm f (arity ts) x → 1 ≤ arity ts → AreTerms ts →
         Spells (items (by_form m x f ts Argument)) (text.by_form m x f ts Argument) →
@@ -147,9 +148,9 @@ module _ (m : Mode) where
     spelled_rest_form (Prefix o) f no_trees is some h alone xs = absurd (omega arith)
     spelled_rest_form (Prefix o) f (tree t ts) is some h alone xs =
         rest_brackets (nat_lt 999 o.priority) (before f o (layout m t (Operand (right_of o)))) (text.by_form m (Prefix o) f (tree t ts) Argument) (λ xs. refl)
-            alone xs
+        alone xs
     spelled_rest_form (Infix o) f no_trees is some h alone xs = absurd (omega arith)
     spelled_rest_form (Infix o) f (tree t no_trees) is some h alone xs = absurd (omega arith)
     spelled_rest_form (Infix o) f (tree t (tree u us)) is some h alone xs =
         rest_brackets (nat_lt 999 o.priority) (between (layout m t (Operand (left_of o))) f o (layout m u (Operand (right_of o)))) (text.by_form m (Infix o) f (tree t (tree u us)) Argument) (λ xs. refl)
-            alone xs
+        alone xs

@@ -1,8 +1,7 @@
 -- The tokens of a layout's items are those of its reading.
-use Rattle.std.specs.Prelude.{◌≡◌, refl, ℕ, ℤ, pos, negsuc, Bool, true, List, [], ◌∷◌, ◌++◌}
+use Rattle.std.specs.Prelude.{◌≡◌, refl, ℕ, ℤ, pos, negsuc, Bool, true, List, ◌∷◌}
 use Rattle.std.proofs.Common.{ap, ◌∙◌}
-use Rattle.prolog_grammar.specs.declared.grammar.lexeme.Lexeme.{Lexeme}
-use Rattle.prolog_grammar.specs.declared.grammar.lexeme.Lexeme.TheVariants.{Name, Open, Close, OpenList, CloseList, OpenCurly, CloseCurly, Comma, Bar}
+use Rattle.prolog_grammar.specs.declared.grammar.lexeme.Lexeme.TheVariants.{Name, Open, OpenList, OpenCurly, Comma, Bar}
 use Rattle.prolog_grammar.specs.Readings.{yield, elements}
 use Rattle.read_back.specs.Spelled.{Item, mark_item, prefix_item, infix_item, close_round, close_square, close_curly, comma, bar, word, infix_lexeme, is_tight, lexemes}
 use Rattle.read_back.specs.Layout.{Layout, unknown, number, plain, call, round, curly, listed, partial, before, between, Layouts, one, and, items, all_items, integer_reading, read_as, all_read_as}
@@ -16,6 +15,7 @@ module _ (key : ℕ → ℕ) where
 
   mutual
     unfolding lexemes items all_items read_as all_read_as yield elements
+
     pub yields : (d : Bool) (l : Layout) (xs : List Item) → lexemes key d (items l xs) ≡ yield (read_as key d l) (lexemes key true xs)
     yields d (unknown n) xs = refl
     yields d (number z) xs = number_yields d z xs

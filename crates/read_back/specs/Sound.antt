@@ -1,5 +1,5 @@
 -- What the terms of the code are: a variable's number has 64 bits and an integer 128, names are text, compounds have 1 to 1,024 arguments.
-use Rattle.std.specs.Prelude.{◌≡◌, ℕ, ◌<◌, ◌^◌, ℤ, pos, negsuc, List, ⊤}
+use Rattle.std.specs.Prelude.{◌<◌, ◌^◌, ℤ, pos, negsuc, ⊤}
 use Rattle.std.specs.Str.{IsUtf8}
 use Rattle.term_core.specs.Tree.{Tree, variable, integer, atom, compound, Trees, no_trees, tree, IsTerm}
 
