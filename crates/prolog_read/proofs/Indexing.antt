@@ -4,7 +4,7 @@ use Rattle.std.specs.Str.{bytes_eq}
 use Rattle.std.specs.BTreeMap.{get_by_text}
 use Rattle.std.specs.Map.{update}
 use Rattle.std.specs.Cmp.Lexicographic.{bytes_decides}
-use Rattle.prolog_read.specs.Small.{lookup}
+use Rattle.prolog_read.specs.Variables.{lookup}
 
 -- a new name behind those so far
 lookup-push : (v w : List ℕ) (n : ℕ) (ps : List (List ℕ × ℕ)) → lookup w ps ≡ None → lookup v (ps ++ (w, n) ∷ []) ≡ cond (bytes_eq w v) (Some n) (lookup v ps)

@@ -1,11 +1,1 @@
-pub mod Complete
-pub mod Faults
-pub mod Frames
 pub mod Indexing
-pub mod Scanning
-pub mod Sound
-pub mod Steps
-pub mod Terms
-pub mod Turns
-pub mod Words
-pub mod WholeTexts

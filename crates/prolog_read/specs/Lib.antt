@@ -1,5 +1,6 @@
-pub mod Machine
+pub mod Clauses
+pub mod Lexemes
 pub mod Outcome
-pub mod Small
-pub mod Tokens
+pub mod Reads
+pub mod Variables
 pub mod Views

@@ -1,14 +1,14 @@
-//! Reads small Prolog text: names, variables, names with arguments, and clauses of these.
+//! Reads the terms and the clauses of a Prolog text (ISO/IEC 13211-1, 6.2 and 6.3).
 #![tactic(auto)]
 
+mod before;
 mod fault;
-mod reading;
-mod small;
-mod token;
+mod lexemes;
+mod read;
 mod variables;
 
-pub use fault::SmallFault;
-pub use small::{read_clauses, read_term};
+pub use fault::ReadFault;
+pub use read::{read_clauses, read_term};
 
 #[cfg(test)]
 mod tests;

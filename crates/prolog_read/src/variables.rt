@@ -1,6 +1,6 @@
 // The numbers of a term's variables.
 ghost use Rattle.std.specs.Prelude.{◌≡◌, suc, IfOk, OnOk};
-ghost use Rattle.prolog_read.specs.Small.{start, number_of, with_variable};
+ghost use Rattle.prolog_read.specs.Variables.{start, number_of, with_variable};
 ghost use Rattle.prolog_read.specs.Views.{numbering, HasIndex};
 
 use std::alloc::Global;

@@ -1,3 +1,9 @@
+mod Ascii
+mod Classes
+mod Fronts
+mod Quotes
+mod Seen
+mod Segments
 pub mod Apart
 pub mod Fitting
 pub mod Forms

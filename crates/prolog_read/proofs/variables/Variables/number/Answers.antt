@@ -1,7 +1,7 @@
 use Rattle.std.proofs.Common.{◌≡◌, List, ℕ, [], ◌∷◌, ◌++◌, None, string_bytes, sym, ap, ◌∙◌}
 use Rattle.std.specs.BTreeMap.{get_by_text}
 use Rattle.std.proofs.lemmas.Map.Text.{btree_map_updates_text}
-use Rattle.prolog_read.specs.Small.{lookup}
+use Rattle.prolog_read.specs.Variables.{lookup}
 use Rattle.prolog_read.specs.declared.variables.Variables.{Variables}
 use Rattle.prolog_read.proofs.Indexing.{indexed_more}
 use Rattle.prolog_read.proofs.variables.Variables.number.Goals as goal
