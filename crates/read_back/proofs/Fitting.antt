@@ -1,12 +1,12 @@
 -- How a term is laid out fits the rules of the grammar.
-use Rattle.std.specs.Prelude.{◌≡◌, refl, ℕ, zero, suc, pos, negsuc, Bool, true, false, not, ◌&&◌, ◌||◌, nat_le, nat_lt, List, Option, Some, None, codes, bytes_eq}
-use Rattle.std.proofs.Common.{arith, inl, inr, leb}
+use Rattle.std.specs.Prelude.{◌≡◌, refl, ℕ, ℤ, pos, negsuc, Bool, true, false, not, cond, ◌&&◌, ◌||◌, nat_le, nat_lt, List, Some, codes, bytes_eq}
+use Rattle.std.proofs.Common.{arith, inl, inr}
 use Rattle.std.proofs.lemmas.Bool.{false≢true, and_from}
 use Rattle.term_core.specs.Tree.{Tree, variable, integer, atom, compound, Trees, no_trees, tree, arity}
 use Rattle.op_table.specs.declared.op.Op.{Op}
 use Rattle.op_table.specs.declared.op.OpKind.{OpKind}
 use Rattle.op_table.specs.declared.op.OpKind.TheVariants.{Xfx, Xfy, Yfx, Fx, Fy}
-use Rattle.op_table.specs.Table.{iso_prefix, iso_infix, row, left_of, right_of}
+use Rattle.op_table.specs.Table.{left_of, right_of}
 use Rattle.prolog_grammar.specs.declared.grammar.lexeme.Word.{Word}
 use Rattle.prolog_grammar.specs.Readings.{Reading, priority, joins_front, ends}
 use Rattle.prolog_grammar.specs.Readings as g
@@ -87,18 +87,22 @@ module _ (key : ℕ → ℕ) where
   right_atom at f true e =
       record { fits = λ d. (tt, refl); priority = λ d. none_least (most at); apart = λ w. refl; quiet = λ t d h q i l. refl }
   right_atom at f false e =
-      record { fits = λ d. tt; priority = λ d. none_least (most at); apart = λ w. refl
-             ; quiet = λ t d h q i l. or_left (is_operator f) (ends (infix_lexeme h)) (no_operator (is_operand at) (is_operator f) e t) }
+      record {
+        fits = λ d. tt;
+        priority = λ d. none_least (most at);
+        apart = λ w. refl;
+        quiet = λ t d h q i l. or_left (is_operator f) (ends (infix_lexeme h)) (no_operator (is_operand at) (is_operator f) e t);
+      }
 
   closed_list : (at : Place) (ls : Layouts) → Fill ls → Right (listed ls) at
   unfolding g.Fits g.quiet read_as Fill
   closed_list at ls h =
       record { fits = λ d. h; priority = λ d. none_least (most at); apart = λ w. refl; quiet = λ t d f q i l. refl }
 
-  open_list : (at : Place) (ls : Layouts) (l : Layout) → Fill ls → Right l Argument → Right (partial ls l) at
+  open_list : (at : Place) (ls : Layouts) (l : Layout) → Fill ls → g.Fits before_row between_row (read_as key true l) → nat_le (priority (read_as key true l)) 999 ≡ true → Right (partial ls l) at
   unfolding g.Fits g.quiet read_as Fill
-  open_list at ls l h r =
-      record { fits = λ d. (h, r.fits true, r.priority true); priority = λ d. none_least (most at); apart = λ w. refl; quiet = λ t d f q i l. refl }
+  open_list at ls l h f p =
+      record { fits = λ d. (h, f, p); priority = λ d. none_least (most at); apart = λ w. refl; quiet = λ t d f q i l. refl }
 
   fill_one : (l : Layout) → Right l Argument → Fill (one l)
   unfolding g.FitAll all_read_as Fill
@@ -108,14 +112,100 @@ module _ (key : ℕ → ℕ) where
   unfolding g.FitAll all_read_as Fill
   fill_and l ls r h = (r.fits true, r.priority true, h)
 
-  filled : (ls : Layouts) → Right (listed ls) Argument → Fill ls
-  unfolding g.Fits read_as Fill
-  filled ls r = r.fits true
-
-  filled_partial : (ls : Layouts) (l : Layout) → Right (partial ls l) Argument → Fill ls × Right l Argument
-  unfolding g.Fits read_as Fill
-  filled_partial ls l r = ?
+  by_bar : (at : Place) (e l : Layout) → Right e Argument → Right l Argument → Right (partial (one e) l) at
+  by_bar at e l r s = open_list at (one e) l (fill_one e r) (s.fits true) (s.priority true)
 
   by_nil : (at : Place) (e : Layout) (f : List ℕ) (b : Bool) → Right e Argument → Right (plain f) Argument → Right (cond b (listed (one e)) (partial (one e) (plain f))) at
   by_nil at e f true r s = closed_list at (one e) (fill_one e r)
-  by_nil at e f false r s = open_list at (one e) (plain f) (fill_one e r) s
+  by_nil at e f false r s = by_bar at e (plain f) r s
+
+  right_list : (at : Place) (e l : Layout) → Right e Argument → Right l Argument → Right (with_element e l) at
+  unfolding g.Fits read_as Fill
+  right_list at e (plain f) r s = by_nil at e f (bytes_eq f (codes "[]")) r s
+  right_list at e (listed ls) r s = closed_list at (and e ls) (fill_and e ls r (s.fits true))
+  right_list at e (partial ls l) r s = let rest = s.fits true in open_list at (and e ls) l (fill_and e ls r rest.0) rest.1 rest.2
+  right_list at e l r s = by_bar at e l r s
+
+  right_call : (at : Place) (f : List ℕ) (ls : Layouts) → Fill ls → Right (call f ls) at
+  unfolding g.Fits g.quiet read_as Fill
+  right_call at f ls h =
+      record { fits = λ d. h; priority = λ d. none_least (most at); apart = λ w. refl; quiet = λ t d f q i l. refl }
+
+  right_curly : (at : Place) (l : Layout) → Right l Whole → Right (curly l) at
+  unfolding g.Fits g.quiet read_as
+  right_curly at l r =
+      record { fits = λ d. (r.fits true, r.priority true); priority = λ d. none_least (most at); apart = λ w. refl; quiet = λ t d f q i l. refl }
+
+  right_round : (at : Place) (f : List ℕ) → Right (round (plain f)) at
+  unfolding g.Fits g.quiet read_as
+  right_round at f =
+      record { fits = λ d. (tt, refl); priority = λ d. none_least (most at); apart = λ w. refl; quiet = λ t d f q i l. refl }
+
+  right_number : (at : Place) (z : ℤ) → Right (number z) at
+  unfolding g.Fits g.quiet read_as
+  right_number at (pos n) =
+      record { fits = λ d. tt; priority = λ d. none_least (most at); apart = λ w. refl; quiet = λ t d f q i l. refl }
+  right_number at (negsuc n) =
+      record { fits = λ d. refl; priority = λ d. none_least (most at); apart = λ w. refl; quiet = λ t d f q i l. refl }
+
+  right_unknown : (at : Place) (n : ℕ) → Right (unknown n) at
+  unfolding g.Fits g.quiet read_as
+  right_unknown at n =
+      record { fits = λ d. tt; priority = λ d. none_least (most at); apart = λ w. refl; quiet = λ t d f q i l. refl }
+
+  -- the token goes on neither with the operator's term nor with its right operand
+  still : (f h : List ℕ) (o p : Op) (r : Reading) → IsOperator f o → between_row h ≡ Some p → nat_le o.priority (left_of p) ≡ true →
+      nat_le (priority r) (right_of o) ≡ true → (nat_le (priority r) (left_of p) ≡ true → g.quiet before_row between_row (infix_lexeme h) r ≡ true) →
+      (not (g.goes_on before_row between_row (right_of o) (priority r) (infix_lexeme h)) && g.quiet before_row between_row (infix_lexeme h) r) ≡ true
+  unfolding g.goes_on
+  still f h o p r is i l b q =
+      and_from _ _ (negated _ (rw (row-infix_lexeme h p i) (below (apart f h o p is i l)))) (q (le_trans (priority r) (right_of o) (left_of p) b (right_below o (left_of p) l)))
+    where
+      below : nat_le p.priority (right_of o) ≡ false → (nat_le p.priority (right_of o) && nat_le (priority r) (left_of p)) ≡ false
+      below e = rw e refl
+
+  core_prefix : (f : List ℕ) (o : Op) (l : Layout) → before_row f ≡ Some o → Right l (Operand (right_of o)) → Core (before f o l) o.priority
+  unfolding g.Fits g.quiet read_as
+  core_prefix f o l e r = record {
+    fits = λ d. (r.fits false, e, r.priority false, r.apart (word f));
+    priority = λ d. refl;
+    apart = λ w. refl;
+    quiet = λ d h p i k. still f h o p (read_as key false l) (inl e) i k (r.priority false) (r.quiet refl false h p i);
+  }
+
+  core_infix : (l : Layout) (f : List ℕ) (o : Op) (r : Layout) → between_row f ≡ Some o → Right l (Operand (left_of o)) → Right r (Operand (right_of o)) → Core (between l f o r) o.priority
+  unfolding g.Fits g.quiet read_as
+  core_infix l f o r e s t =
+      let d = is_tight (infix_item f) in
+      record {
+        fits = λ c. (s.fits c, t.fits d, row-infix_lexeme f o e, s.priority c, t.priority d, s.quiet refl c f o e (s.priority c));
+        priority = λ c. refl;
+        apart = s.apart;
+        quiet = λ c h p i k. still f h o p (read_as key d r) (inr e) i k (t.priority d) (t.quiet refl d h p i);
+      }
+
+  module _ (m : Mode) where
+    mutual
+      unfolding layout by_form arguments
+
+      pub right : (t : Tree) (at : Place) → Right (layout m t at) at
+      right (variable n) at = right_unknown at n
+      right (integer z) at = right_number at z
+      right (atom f) at = right_atom at f (is_operand at && is_operator f) refl
+      right (compound f ts) at = right_form (form m f (arity ts)) f ts at (IsForm-form m f (arity ts))
+
+      right_form : (x : Form) (f : List ℕ) (ts : Trees) (at : Place) → IsForm f (arity ts) x → Right (by_form m x f ts at) at
+      right_form Call f (tree t ts) at is = right_call at f (arguments m (layout m t Argument) ts) (right_all (layout m t Argument) ts (right t Argument))
+      right_form Curly f (tree t ts) at is = right_curly at (layout m t Whole) (right t Whole)
+      right_form Cell f (tree t (tree u us)) at is = right_list at (layout m t Argument) (layout m u Argument) (right t Argument) (right u Argument)
+      right_form (Prefix o) f (tree t ts) at is =
+          by_brackets at o.priority (before f o (layout m t (Operand (right_of o)))) (nat_lt (most at) o.priority) refl (prefix_small f o is.1)
+          (core_prefix f o (layout m t (Operand (right_of o))) is.1 (right t (Operand (right_of o))))
+      right_form (Infix o) f (tree t (tree u us)) at is =
+          by_brackets at o.priority (between (layout m t (Operand (left_of o))) f o (layout m u (Operand (right_of o)))) (nat_lt (most at) o.priority) refl (infix_small f o is.1)
+          (core_infix (layout m t (Operand (left_of o))) f o (layout m u (Operand (right_of o))) is.1 (right t (Operand (left_of o))) (right u (Operand (right_of o))))
+      right_form x f ts at is = right_round at f
+
+      right_all : (l : Layout) (ts : Trees) → Right l Argument → Fill (arguments m l ts)
+      right_all l no_trees r = fill_one l r
+      right_all l (tree t ts) r = fill_and l (arguments m (layout m t Argument) ts) r (right_all (layout m t Argument) ts (right t Argument))

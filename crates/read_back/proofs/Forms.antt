@@ -44,8 +44,8 @@ one_of f k None e is = and_no (bytes_eq f (codes ".")) (k == 2) (not_two k e)
 one_of f k (Some o) e is = (e, is o refl, and_no (bytes_eq f (codes ".")) (k == 2) (not_two k e))
 
 two_of : (f : List ℕ) (k : ℕ) (o : Option Op) → k ≡ 2 → bytes_eq f (codes ".") ≡ false → ((p : Op) → o ≡ Some p → row f iso_infix ≡ Some p) → IsForm f k (form_of_two o)
-two_of f k None e no is = no_and (bytes_eq f (codes ".")) (k == 2) no
-two_of f k (Some o) e no is = (e, is o refl, no_and (bytes_eq f (codes ".")) (k == 2) no)
+two_of f k None e other is = no_and (bytes_eq f (codes ".")) (k == 2) other
+two_of f k (Some o) e other is = (e, is o refl, no_and (bytes_eq f (codes ".")) (k == 2) other)
 
 module _ (m : Mode) (f : List ℕ) (k : ℕ) where
   one : (b : Bool) → k ≡ 1 → bytes_eq f (codes "{}") ≡ b → IsForm f k (cond b Curly (form_of_one (operators m (row f iso_prefix))))

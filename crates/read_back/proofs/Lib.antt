@@ -1,13 +1,21 @@
+mod Apart
 mod Ascii
 mod Classes
 mod Escapes
-pub mod Fitting
-pub mod Forms
+mod Fitting
+mod Forms
 mod Fronts
+mod Grammar
+mod Limits
+mod Meaning
 mod Names
+mod Nesting
 mod Numbers
-pub mod Ops
+mod Ops
+mod Order
+mod Pieces
 mod Quotes
 mod Seen
 mod Segments
 mod Spelt
+mod Yields

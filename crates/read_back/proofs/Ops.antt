@@ -1,5 +1,5 @@
 -- Facts of the standard's table of operators.
-use Rattle.std.specs.Prelude.{◌≡◌, refl, ℕ, Bool, true, false, not, ◌&&◌, ◌||◌, nat_le, List, [], ◌∷◌, ◌++◌, Option, Some, None, cond, codes, bytes_eq, is_some}
+use Rattle.std.specs.Prelude.{◌≡◌, refl, ℕ, Bool, true, false, not, ◌||◌, nat_le, List, [], ◌∷◌, Option, Some, None, cond, codes, bytes_eq}
 use Rattle.std.specs.List.{list_all}
 use Rattle.std.proofs.Common.{◌⊎◌, inl, inr, ap, ◌∙◌, sym, subst}
 use Rattle.std.proofs.lemmas.Bool.{false≢true, and_parts}
@@ -59,7 +59,7 @@ unfolding iso_infix
 infix_apart = refl
 
 right_of_or : (a b : Bool) → (not a || not b) ≡ true → a ≡ true → b ≡ false
-right_of_or true true e h = e
+right_of_or true true e h = absurd (false≢true e)
 right_of_or true false e h = refl
 right_of_or false b e h = absurd (false≢true h)
 

@@ -1,6 +1,5 @@
 -- How the writer lays a term out: as calls, lists, curly terms and operators, with the brackets that they need.
-use Rattle.std.specs.Prelude.{ℕ, suc, ℤ, pos, negsuc, Bool, true, false, not, ◌&&◌, nat_lt, cond, List, [], ◌∷◌, codes, bytes_eq}
-use Rattle.std.specs.Char.{is_ascii_lowercase}
+use Rattle.std.specs.Prelude.{ℕ, suc, ℤ, pos, negsuc, Bool, true, false, ◌&&◌, nat_lt, cond, List, ◌∷◌, codes, bytes_eq}
 use Rattle.term_core.specs.Tree.{Tree, variable, integer, atom, compound, Trees, no_trees, tree, arity}
 use Rattle.op_table.specs.declared.op.Op.{Op}
 use Rattle.op_table.specs.Table.{left_of, right_of}

@@ -1,5 +1,5 @@
 -- What each piece of a written term is, and the tokens that it is read as (ISO/IEC 13211-1, 6.4).
-use Rattle.std.specs.Prelude.{◌≡◌, ℕ, suc, ◌<◌, ◌^◌, ℤ, pos, negsuc, Bool, true, false, not, cond, List, [], ◌∷◌, ◌++◌, is_some, codes, bytes_eq, ⊤}
+use Rattle.std.specs.Prelude.{◌≡◌, ℕ, suc, ◌<◌, ◌-◌, ◌^◌, ◌||◌, ℤ, pos, negsuc, Bool, true, false, not, cond, List, [], ◌∷◌, ◌++◌, is_some, codes, bytes_eq, ⊤}
 use Rattle.std.specs.Char.{is_ascii_lowercase}
 use Rattle.std.specs.Fmt.{signed_decimal}
 use Rattle.std.specs.Str.{IsUtf8}
@@ -9,6 +9,7 @@ use Rattle.prolog_grammar.specs.declared.grammar.lexeme.Lexeme.{Lexeme}
 use Rattle.prolog_grammar.specs.declared.grammar.lexeme.Lexeme.TheVariants.{Name, Integer, Variable, Open, Close, OpenList, CloseList, OpenCurly, CloseCurly, Comma, Bar}
 use Rattle.prolog_write.specs.declared.mode.Mode.{Mode}
 use Rattle.prolog_write.specs.Text.{Piece, piece, variable_piece, prefix_piece, infix_piece, atom_text, first}
+use Rattle.read_back.specs.Sound.{IsSized}
 
 -- brackets, the comma between arguments or elements, and the bar of a list
 pub data Mark : Type 0 where
@@ -98,13 +99,57 @@ module _ (key : ℕ → ℕ) where
   lexemes d [] = []
   lexemes d (x ∷ xs) = item_lexemes d x ++ lexemes (is_tight x) xs
 
+-- the variables' numbers from left to right
+unfoldable pub item_variables : List Item → List ℕ
+item_variables [] = []
+item_variables (variable_item n ∷ xs) = n ∷ item_variables xs
+item_variables (x ∷ xs) = item_variables xs
+
+-- ---- open brackets
+
+abbrev pub is_opening : Mark → Bool
+is_opening open_round = true
+is_opening open_square = true
+is_opening open_curly = true
+is_opening _ = false
+
+abbrev pub is_closing : Mark → Bool
+is_closing close_round = true
+is_closing close_square = true
+is_closing close_curly = true
+is_closing _ = false
+
+-- a name that is two brackets
+abbrev pub is_brackets : List ℕ → Bool
+is_brackets f = bytes_eq f (codes "[]") || bytes_eq f (codes "{}")
+
+-- how many are open behind an item, where n were before it
+abbrev pub open_behind : ℕ → Item → ℕ
+open_behind n (mark_item k) = cond (is_opening k) (suc n) (cond (is_closing k) (n - 1) n)
+open_behind n _ = n
+
+-- how many are open with each of its tokens, its own among them
+abbrev pub integer_brackets : ℕ → ℤ → List ℕ
+integer_brackets n (pos k) = n ∷ []
+integer_brackets n (negsuc k) = n ∷ n ∷ []
+
+abbrev pub item_brackets : ℕ → Item → List ℕ
+item_brackets n (integer_item z) = integer_brackets n z
+item_brackets n (name_item f) = cond (is_brackets f) (suc n) n ∷ []
+item_brackets n (mark_item k) = cond (is_opening k) (suc n) n ∷ []
+item_brackets n _ = n ∷ []
+
+-- of items from left to right
+unfoldable pub brackets : ℕ → List Item → List ℕ
+brackets n [] = []
+brackets n (x ∷ xs) = item_brackets n x ++ brackets (open_behind n x) xs
+
 -- ---- items side by side
 
--- numbers are those of terms, names are text, and operators are those of the standard's table
+-- numbers have their sizes, names are text, and operators are those of the standard's table
 abbrev pub IsItem : Item → Type 0
 IsItem (variable_item n) = n < 2 ^ 64
-IsItem (integer_item (pos n)) = n < 2 ^ 127
-IsItem (integer_item (negsuc n)) = n < 2 ^ 127
+IsItem (integer_item z) = IsSized z
 IsItem (name_item f) = IsUtf8 f
 IsItem (prefix_item f) = is_some (row f iso_prefix) ≡ true
 IsItem (infix_item f) = is_some (row f iso_infix) ≡ true
