@@ -16,7 +16,7 @@ use Rattle.prolog_write.specs.Text.{is_word, is_symbol, is_bare, is_word_atom, i
 use Rattle.prolog_read.specs.Variables.{Numbering}
 use Rattle.prolog_grammar.specs.declared.grammar.lexeme.Lexeme.TheVariants.{Name}
 use Rattle.prolog_write.specs.declared.mode.Mode.TheVariants.{Quoted}
-use Rattle.read_back.specs.Spelled.{Item, name_item, prefix_item, infix_item, piece_of, word, is_brackets, open_behind}
+use Rattle.read_back.specs.Spelled.{Item, name_item, prefix_item, infix_item, piece_of, word, is_brackets, is_close_square, is_close_curly, open_behind}
 use Rattle.read_back.proofs.Ascii.{ascii_encodes, ascii_scalars, scalars_append, last_all}
 use Rattle.read_back.proofs.Classes.{each_below, at_each, word_below, symbol_below}
 use Rattle.read_back.proofs.Fronts.{IsToken, is_any, ends_word, ends_symbols, ends_quote, all_too, word_token, symbols_token}
@@ -25,7 +25,7 @@ use Rattle.read_back.proofs.Ops.{same_name}
 use Rattle.read_back.proofs.Escapes.{append_nil, quoted_bytes, quoted_scalars}
 use Rattle.read_back.proofs.Quotes.{in_quotes, quoted_token_of, held_of}
 use Rattle.read_back.proofs.Segments.{Segment, space, written, text_of}
-use Rattle.read_back.proofs.Seen.{Seen, seen, closes, one_of, read_seen, named_seen}
+use Rattle.read_back.proofs.Seen.{Seen, seen, closes, one_of, read_seen}
 use Rattle.read_back.proofs.Spelt.{Spelt, Single, single, Next, item_text, item_counted, item_names, leaves, after_word, after_symbol}
 use Rattle.read_back.proofs.Numbers.{never_closes}
 
@@ -78,14 +78,16 @@ quoted_spelt f u e =
       names = λ s. refl;
       alone = λ ts h. never_closes quoted_token (λ k. refl) ts;
       leaves_on = refl;
+      square = refl;
+      curly = refl;
     }) (quoted_token_of cs) (λ d m. not_from_false _ (or_parts _ _ (m.plain refl)).1)
 
 -- ---- names without quotes
 
 -- an item that is read as this name
 named_as : (x : Item) (c : ℕ) (w : List ℕ) → c ∷ w ≡ item_text x → list_all is_ascii (c ∷ w) ≡ true → ((d : Bool) (n : ℕ) (s : Numbering) → (Name (word (c ∷ w)), n) ∷ [] ≡ item_counted n s d x) →
-    ((n : ℕ) → n ≡ open_behind n x) → ((s : Numbering) → s ≡ item_names s x) → leaves x ≡ true → Single x name_token (c ∷ w)
-named_as x c w text ascii counted opens names leaves_on =
+    ((n : ℕ) → n ≡ open_behind n x) → ((s : Numbering) → s ≡ item_names s x) → leaves x ≡ true → false ≡ is_close_square x → false ≡ is_close_curly x → Single x name_token (c ∷ w)
+named_as x c w text ascii counted opens names leaves_on square curly =
     let bytes : encode_utf8_all (c ∷ w) ≡ c ∷ w = ascii_encodes (c ∷ w) ascii in
     record {
       bytes = bytes ∙ text;
@@ -98,6 +100,8 @@ named_as x c w text ascii counted opens names leaves_on =
       names = names;
       alone = λ ts h. never_closes name_token (λ k. refl) ts;
       leaves_on = leaves_on;
+      square = square;
+      curly = curly;
     }
 
 is_no_brackets : (p : List ℕ → Bool) (f : List ℕ) → p f ≡ true → p (codes "[]") ≡ false → p (codes "{}") ≡ false → is_brackets f ≡ false
@@ -105,7 +109,7 @@ is_no_brackets p f h nil curly = or_from _ _ (differ p f (codes "[]") h nil) (di
 
 -- a name that stands for itself
 named_bare : (c : ℕ) (w : List ℕ) → is_bare (c ∷ w) ≡ true → list_all is_ascii (c ∷ w) ≡ true → is_brackets (c ∷ w) ≡ false → Single (name_item (c ∷ w)) name_token (c ∷ w)
-named_bare c w e ascii none = named_as (name_item (c ∷ w)) c w (rw e refl) ascii (λ d n s. rw none refl) (λ n. refl) (λ s. refl) refl
+named_bare c w e ascii none = named_as (name_item (c ∷ w)) c w (rw e refl) ascii (λ d n s. rw none refl) (λ n. refl) (λ s. refl) refl refl refl
 
 -- what may follow an item is told by its text
 told : (x : Item) (f : List ℕ) (d : ℕ) → f ≡ item_text x → Next x d → is_spaced (last f) (piece_of Quoted x).is_prefix d ≡ false
@@ -167,7 +171,8 @@ nil_spelt = record {
   reads = λ ss m r. (omega arith, front.open_square.reads (93 ∷ text_of ss) refl, (omega arith, front.close_square.reads (text_of ss) refl, r));
   no_end = λ ss u. u;
   lexemes = λ d n s ss u. refl;
-  names = λ d s ss u. refl;
+  square = λ d ss. refl;
+  curly = λ d ss. refl;
 }
 
 curly_spelt : Spelt (name_item (codes "{}"))
@@ -181,7 +186,8 @@ curly_spelt = record {
   reads = λ ss m r. (omega arith, front.open_curly.reads (125 ∷ text_of ss) refl, (omega arith, front.close_curly.reads (text_of ss) refl, r));
   no_end = λ ss u. u;
   lexemes = λ d n s ss u. refl;
-  names = λ d s ss u. refl;
+  square = λ d ss. refl;
+  curly = λ d ss. refl;
 }
 
 cut_spelt : Spelt (name_item (codes "!"))
@@ -255,7 +261,7 @@ unfolding is_symbol
 prefix_of [] h = absurd (false≢true h)
 prefix_of (c ∷ w) h =
     let p = symbols_of c w h in
-    symbols_spelt (prefix_item (c ∷ w)) c w p refl (named_as (prefix_item (c ∷ w)) c w refl (symbols_ascii (c ∷ w) p.all) (λ d n s. refl) (λ n. refl) (λ s. refl) refl)
+    symbols_spelt (prefix_item (c ∷ w)) c w p refl (named_as (prefix_item (c ∷ w)) c w refl (symbols_ascii (c ∷ w) p.all) (λ d n s. refl) (λ n. refl) (λ s. refl) refl refl refl)
 
 pub prefix_spelt : (f : List ℕ) → is_some (row f iso_prefix) ≡ true → Spelt (prefix_item f)
 prefix_spelt f h = prefix_of f (holds_of is_symbol_atom f iso_prefix all_prefix h)
@@ -272,10 +278,12 @@ comma_spelt = single (infix_item (codes ",")) comma_token (codes ",") is_any (re
   names = λ s. refl;
   alone = λ ts h. never_closes comma_token (λ k. refl) ts;
   leaves_on = refl;
+  square = refl;
+  curly = refl;
 }) front.comma (λ d m. refl)
 
 infix_semicolon : Spelt (infix_item (codes ";"))
-infix_semicolon = single (infix_item (codes ";")) name_token (codes ";") is_any (named_as (infix_item (codes ";")) 59 [] refl refl (λ d n s. refl) (λ n. refl) (λ s. refl) refl) front.semicolon (λ d m. refl)
+infix_semicolon = single (infix_item (codes ";")) name_token (codes ";") is_any (named_as (infix_item (codes ";")) 59 [] refl refl (λ d n s. refl) (λ n. refl) (λ s. refl) refl refl refl) front.semicolon (λ d m. refl)
 
 symbol_no_letter : (c : ℕ) → is_symbol c ≡ true → is_ascii_lowercase c ≡ false
 unfolding is_symbol
@@ -288,7 +296,7 @@ infix_symbols c w h =
     let letter : is_ascii_lowercase c ≡ false = symbol_no_letter c (and_parts _ _ p.all).0 in
     let no_comma : bytes_eq (c ∷ w) (codes ",") ≡ false = differ is_symbol_atom (c ∷ w) (codes ",") h refl in
     let text : c ∷ w ≡ item_text (infix_item (c ∷ w)) = rw letter refl in
-    symbols_spelt (infix_item (c ∷ w)) c w p text (named_as (infix_item (c ∷ w)) c w text (symbols_ascii (c ∷ w) p.all) (λ d n s. rw no_comma refl) (λ n. refl) (λ s. refl) (rw letter refl))
+    symbols_spelt (infix_item (c ∷ w)) c w p text (named_as (infix_item (c ∷ w)) c w text (symbols_ascii (c ∷ w) p.all) (λ d n s. rw no_comma refl) (λ n. refl) (λ s. refl) (rw letter refl) refl refl)
 
 -- an operator of letters, with a space on each side
 infix_word : (c : ℕ) (w : List ℕ) → is_word_atom (c ∷ w) ≡ true → Spelt (infix_item (c ∷ w))
@@ -302,7 +310,8 @@ infix_word c w h = record {
   reads = λ ss m r. (omega arith, name.reads (32 ∷ text_of ss) refl, r);
   no_end = λ ss u. u;
   lexemes = λ d n s ss u. read d n s ss (never_closes name_token (λ k. refl) (seen false ss));
-  names = λ d s ss u. named d s ss (never_closes name_token (λ k. refl) (seen false ss));
+  square = λ d ss. refl;
+  curly = λ d ss. refl;
 }
   where
     f : List ℕ
@@ -328,9 +337,6 @@ infix_word c w h = record {
         read_seen false n s (record { kind = name_token; value = spec.value name_token f; direct = false } ∷ seen false ss) ≡
         item_counted n s d (infix_item f) ++ read_seen false n s (seen (leaves (infix_item f)) ss)
     read d n s ss e = rw (e, no_comma, p.0, ascii_encodes f ascii) refl
-    named : (d : Bool) (s : Numbering) (ss : List Segment) → closes name_token (seen false ss) ≡ false →
-        named_seen false s (record { kind = name_token; value = spec.value name_token f; direct = false } ∷ seen false ss) ≡ named_seen false s (seen (leaves (infix_item f)) ss)
-    named d s ss e = rw (e, p.0) refl
 
 infix_of : (f : List ℕ) → (is_word_atom f || is_symbol_atom f) ≡ true → Spelt (infix_item f)
 unfolding is_symbol

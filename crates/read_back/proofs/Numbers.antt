@@ -15,7 +15,7 @@ use Rattle.prolog_read.specs.Variables.{Numbering, number_of, with_variable}
 use Rattle.prolog_read.specs.Reads.{is_end}
 use Rattle.prolog_read.specs.Lexemes.{is_pair, variables_behind}
 use Rattle.prolog_read.specs.Lexemes as reader
-use Rattle.read_back.specs.Spelled.{Item, variable_item, integer_item, mark_item, Mark, mark_text, mark_lexeme, is_opening, open_behind}
+use Rattle.read_back.specs.Spelled.{Item, variable_item, integer_item, mark_item, Mark, mark_text, mark_lexeme, is_opening, is_close_square, is_close_curly, open_behind}
 use Rattle.read_back.specs.Spelled as item
 use Rattle.read_back.specs.Sound.{IsSized}
 use Rattle.read_back.proofs.Ascii.{Digits, digits_of, ascii_encodes, ascii_scalars, scalars_append, last_all}
@@ -23,7 +23,7 @@ use Rattle.read_back.proofs.Classes.{digit_below}
 use Rattle.read_back.proofs.Fronts.{IsToken, is_any, ends_word, ends_number, ends_symbols, all_too, underscore_token, symbols_token, number_token, integer_value}
 use Rattle.read_back.proofs.Fronts as front
 use Rattle.read_back.proofs.Segments.{Segment, written, text_of}
-use Rattle.read_back.proofs.Seen.{Seen, seen, closes, one_of, read_seen, named_seen}
+use Rattle.read_back.proofs.Seen.{Seen, seen, closes, one_of, read_seen}
 use Rattle.read_back.proofs.Spelt.{Spelt, Single, single, Next, Unpaired, item_text, item_counted, variable_name, after_word, after_number}
 
 -- a kind that opens no list and no curly term
@@ -61,6 +61,8 @@ variable_spelt n l =
       names = λ s. ap (with_variable s) bytes;
       alone = λ ts u. never_closes variable_token (λ k. refl) ts;
       leaves_on = refl;
+      square = refl;
+      curly = refl;
     }) (underscore_token (decimal n) words) (λ d m. after_word (last (variable_name n)) d false m.apart (last_all is_word 95 (decimal n) words) m.small)
 
 -- ---- integers
@@ -88,6 +90,8 @@ natural_of n l h =
       names = λ s. refl;
       alone = λ ts u. never_closes integer_token (λ k. refl) ts;
       leaves_on = refl;
+      square = refl;
+      curly = refl;
     }) (number_token h.head h.tail h.digits small) (λ d m. after_number (last (decimal n)) d m.apart (last_digit n h) m.small (m.plain refl))
 
 pub natural_spelt : (n : ℕ) → n < 2 ^ 127 → Spelt (integer_item (pos n))
@@ -115,7 +119,8 @@ negative_of n l h = record {
   reads = λ ss m r. (omega arith, minus_token.reads (cs ++ text_of ss) (digit_no_symbol h.head (one_digit (suc n) h)), (digits.some, digits.reads (text_of ss) (may (slice_index (text_of ss) 0) m), r));
   no_end = λ ss u. u;
   lexemes = λ d k s ss u. read d k s (seen true ss) (never_closes integer_token (λ k. refl) (seen true ss));
-  names = λ d s ss u. named s (seen true ss) (never_closes integer_token (λ k. refl) (seen true ss));
+  square = λ d ss. refl;
+  curly = λ d ss. refl;
 }
   where
     cs : List ℕ
@@ -138,9 +143,6 @@ negative_of n l h = record {
         read_seen false k s (record { kind = name_token; value = spec.value name_token (45 ∷ []); direct = d } ∷ record { kind = integer_token; value = spec.value integer_token cs; direct = true } ∷ ts) ≡
         item_counted k s d (integer_item (negsuc n)) ++ read_seen false k s ts
     read d k s ts e = let minus : encode_utf8_all (45 ∷ []) ≡ 45 ∷ [] = ascii_encodes (45 ∷ []) refl in rw (minus, e, value) refl
-    named : (s : Numbering) (ts : List Seen) → closes integer_token ts ≡ false →
-        named_seen false s (record { kind = integer_token; value = spec.value integer_token cs; direct = true } ∷ ts) ≡ named_seen false s ts
-    named s ts e = rw e refl
 
 pub integer_spelt : (z : ℤ) → IsSized z → Spelt (integer_item z)
 integer_spelt (pos n) l = natural_spelt n l
@@ -151,8 +153,9 @@ integer_spelt (negsuc n) l = negative_of n l (digits_of (suc n) (omega (arith, l
 one_mark : (k : Mark) (kind : Kind) (c : ℕ) → mark_text k ≡ c ∷ [] → nat_lt c 128 ≡ true → is_end kind ≡ false →
     ((d : Bool) (n : ℕ) (s : Numbering) → one_of (record { kind = kind; value = spec.value kind (c ∷ []); direct = d }) n s ≡ (mark_lexeme d k, cond (is_opening k) (suc n) n)) →
     ((n : ℕ) → reader.open_behind kind n ≡ open_behind n (mark_item k)) → ((s : Numbering) → variables_behind (spec.value kind (c ∷ [])) s ≡ s) →
+    is_pair open_list_token kind ≡ is_close_square (mark_item k) → is_pair open_curly_token kind ≡ is_close_curly (mark_item k) →
     ((ts : List Seen) → Unpaired (mark_item k) ts → closes kind ts ≡ false) → IsToken kind (c ∷ []) is_any → Spelt (mark_item k)
-one_mark k kind c e l no_end counted opens names alone t =
+one_mark k kind c e l no_end counted opens names square curly alone t =
     let ascii : list_all is_ascii (c ∷ []) ≡ true = rw l refl in
     single (mark_item k) kind (c ∷ []) is_any (record {
       bytes = ascii_encodes (c ∷ []) ascii ∙ sym e;
@@ -165,14 +168,16 @@ one_mark k kind c e l no_end counted opens names alone t =
       names = names;
       alone = alone;
       leaves_on = refl;
+      square = square;
+      curly = curly;
     }) t (λ d m. refl)
 
 pub mark_spelt : (k : Mark) → Spelt (mark_item k)
-mark_spelt item.open_round = one_mark item.open_round open_token 40 refl refl refl (λ d n s. refl) (λ n. refl) (λ s. refl) (λ ts u. never_closes open_token (λ k. refl) ts) front.open_round
-mark_spelt item.close_round = one_mark item.close_round close_token 41 refl refl refl (λ d n s. refl) (λ n. refl) (λ s. refl) (λ ts u. never_closes close_token (λ k. refl) ts) front.close_round
-mark_spelt item.open_square = one_mark item.open_square open_list_token 91 refl refl refl (λ d n s. refl) (λ n. refl) (λ s. refl) (λ ts u. u) front.open_square
-mark_spelt item.close_square = one_mark item.close_square close_list_token 93 refl refl refl (λ d n s. refl) (λ n. refl) (λ s. refl) (λ ts u. never_closes close_list_token (λ k. refl) ts) front.close_square
-mark_spelt item.open_curly = one_mark item.open_curly open_curly_token 123 refl refl refl (λ d n s. refl) (λ n. refl) (λ s. refl) (λ ts u. u) front.open_curly
-mark_spelt item.close_curly = one_mark item.close_curly close_curly_token 125 refl refl refl (λ d n s. refl) (λ n. refl) (λ s. refl) (λ ts u. never_closes close_curly_token (λ k. refl) ts) front.close_curly
-mark_spelt item.comma = one_mark item.comma comma_token 44 refl refl refl (λ d n s. refl) (λ n. refl) (λ s. refl) (λ ts u. never_closes comma_token (λ k. refl) ts) front.comma
-mark_spelt item.bar = one_mark item.bar bar_token 124 refl refl refl (λ d n s. refl) (λ n. refl) (λ s. refl) (λ ts u. never_closes bar_token (λ k. refl) ts) front.bar
+mark_spelt item.open_round = one_mark item.open_round open_token 40 refl refl refl (λ d n s. refl) (λ n. refl) (λ s. refl) refl refl (λ ts u. never_closes open_token (λ k. refl) ts) front.open_round
+mark_spelt item.close_round = one_mark item.close_round close_token 41 refl refl refl (λ d n s. refl) (λ n. refl) (λ s. refl) refl refl (λ ts u. never_closes close_token (λ k. refl) ts) front.close_round
+mark_spelt item.open_square = one_mark item.open_square open_list_token 91 refl refl refl (λ d n s. refl) (λ n. refl) (λ s. refl) refl refl (λ ts u. u) front.open_square
+mark_spelt item.close_square = one_mark item.close_square close_list_token 93 refl refl refl (λ d n s. refl) (λ n. refl) (λ s. refl) refl refl (λ ts u. never_closes close_list_token (λ k. refl) ts) front.close_square
+mark_spelt item.open_curly = one_mark item.open_curly open_curly_token 123 refl refl refl (λ d n s. refl) (λ n. refl) (λ s. refl) refl refl (λ ts u. u) front.open_curly
+mark_spelt item.close_curly = one_mark item.close_curly close_curly_token 125 refl refl refl (λ d n s. refl) (λ n. refl) (λ s. refl) refl refl (λ ts u. never_closes close_curly_token (λ k. refl) ts) front.close_curly
+mark_spelt item.comma = one_mark item.comma comma_token 44 refl refl refl (λ d n s. refl) (λ n. refl) (λ s. refl) refl refl (λ ts u. never_closes comma_token (λ k. refl) ts) front.comma
+mark_spelt item.bar = one_mark item.bar bar_token 124 refl refl refl (λ d n s. refl) (λ n. refl) (λ s. refl) refl refl (λ ts u. never_closes bar_token (λ k. refl) ts) front.bar

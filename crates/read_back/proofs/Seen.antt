@@ -51,12 +51,6 @@ read_seen false n s (t ∷ ts) =
     if closes t.kind ts then pair_of t.kind n ∷ read_seen true n s ts
     else one_of t n s ∷ read_seen false (open_behind t.kind n) (variables_behind t.value s) ts
 
--- the variables behind them
-abbrev pub named_seen : Bool → Numbering → List Seen → Numbering
-named_seen skip s [] = s
-named_seen true s (t ∷ ts) = named_seen false s ts
-named_seen false s (t ∷ ts) = if closes t.kind ts then named_seen true s ts else named_seen false (variables_behind t.value s) ts
-
 -- ---- tokens of a text
 
 abbrev before_from : Option ℕ → Before
@@ -85,20 +79,6 @@ lexemes_seen text b (t ∷ u ∷ ts) = by (is_pair t.kind u.kind) (lexemes_seen 
         else one_of this b.brackets b.variables ∷ read_seen false (open_behind t.kind b.brackets) (variables_behind (value_at text t) b.variables) (seen_of text (Some t.to) (u ∷ ts)))
     by true h k = ap (λ xs. pair_of t.kind b.brackets ∷ xs) h
     by false h k = ap (λ xs. one_of this b.brackets b.variables ∷ xs) k
-
-pub variables_seen : (text : List ℕ) (b : Before) (ts : List Token) → (reader.behind_all text b ts).variables ≡ named_seen false b.variables (seen_of text b.to ts)
-unfolding reader.behind_all
-variables_seen text b [] = refl
-variables_seen text b (t ∷ []) = refl
-variables_seen text b (t ∷ u ∷ ts) = by (is_pair t.kind u.kind) (variables_seen text (behind_pair b u) ts) (variables_seen text (behind text b t) (u ∷ ts))
-  where
-    by : (c : Bool) →
-        (reader.behind_all text (behind_pair b u) ts).variables ≡ named_seen false b.variables (seen_of text (Some u.to) ts) →
-        (reader.behind_all text (behind text b t) (u ∷ ts)).variables ≡ named_seen false (variables_behind (value_at text t) b.variables) (seen_of text (Some t.to) (u ∷ ts)) →
-        (if c then reader.behind_all text (behind_pair b u) ts else reader.behind_all text (behind text b t) (u ∷ ts)).variables ≡
-        (if c then named_seen false b.variables (seen_of text (Some u.to) ts) else named_seen false (variables_behind (value_at text t) b.variables) (seen_of text (Some t.to) (u ∷ ts)))
-    by true h k = h
-    by false h k = k
 
 -- ---- the tokens of segments
 

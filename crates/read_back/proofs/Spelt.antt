@@ -12,14 +12,14 @@ use Rattle.prolog_write.specs.declared.mode.Mode.TheVariants.{Quoted}
 use Rattle.prolog_write.specs.Text.{is_spaced, is_symbol, is_word, first, last}
 use Rattle.prolog_read.specs.Variables.{Numbering, number_of, with_variable}
 use Rattle.prolog_read.specs.Reads.{is_end}
-use Rattle.prolog_read.specs.Lexemes.{variables_behind}
+use Rattle.prolog_read.specs.Lexemes.{is_pair, variables_behind}
 use Rattle.prolog_read.specs.Lexemes as reader
-use Rattle.read_back.specs.Spelled.{Item, variable_item, integer_item, name_item, mark_item, prefix_item, infix_item, open_square, open_curly, piece_of, item_lexemes, item_brackets, open_behind}
+use Rattle.read_back.specs.Spelled.{Item, variable_item, integer_item, name_item, mark_item, prefix_item, infix_item, open_square, open_curly, piece_of, is_tight, is_close_square, is_close_curly, item_lexemes, item_brackets, open_behind}
 use Rattle.read_back.proofs.Ascii.{scalars_append}
 use Rattle.read_back.proofs.Classes.{continues_is, symbol_is}
 use Rattle.read_back.proofs.Fronts.{IsToken, ends_word, ends_number, ends_symbols}
 use Rattle.read_back.proofs.Segments.{Segment, space, written, text_of, AreRead}
-use Rattle.read_back.proofs.Seen.{Seen, seen, closes, Counted, one_of, pair_of, read_seen, named_seen}
+use Rattle.read_back.proofs.Seen.{Seen, seen, closes, Counted, one_of, pair_of, read_seen}
 
 -- ---- what an item is read as
 
@@ -41,6 +41,11 @@ item_counted n s d x = zipped (item_lexemes (λ v. number_of s (variable_name v)
 abbrev pub item_names : Numbering → Item → Numbering
 item_names s (variable_item n) = with_variable s (variable_name n)
 item_names s _ = s
+
+-- of items from left to right
+unfoldable pub threaded : ℕ → Numbering → Bool → List Item → List Counted
+threaded n s d [] = []
+threaded n s d (x ∷ xs) = item_counted n s d x ++ threaded (open_behind n x) (item_names s x) (is_tight x) xs
 
 -- whether what follows stands directly behind it, where no space is put between
 abbrev pub leaves : Item → Bool
@@ -99,8 +104,8 @@ pub record Spelt (x : Item) : Type 0 where
   pub no_end : (ss : List Segment) → has_no_end ss ≡ true → has_no_end (segments ++ ss) ≡ true
   pub lexemes : (d : Bool) (n : ℕ) (s : Numbering) (ss : List Segment) → Unpaired x (seen (leaves x) ss) →
       read_seen false n s (seen d (segments ++ ss)) ≡ item_counted n s d x ++ read_seen false (open_behind n x) (item_names s x) (seen (leaves x) ss)
-  pub names : (d : Bool) (s : Numbering) (ss : List Segment) → Unpaired x (seen (leaves x) ss) →
-      named_seen false s (seen d (segments ++ ss)) ≡ named_seen false (item_names s x) (seen (leaves x) ss)
+  pub square : (d : Bool) (ss : List Segment) → closes open_list_token (seen d (segments ++ ss)) ≡ is_close_square x
+  pub curly : (d : Bool) (ss : List Segment) → closes open_curly_token (seen d (segments ++ ss)) ≡ is_close_curly x
 
 -- ---- an item of one token
 
@@ -116,6 +121,8 @@ pub record Single (x : Item) (kind : Kind) (cs : Text) : Type 0 where
   pub names : (s : Numbering) → variables_behind (value kind cs) s ≡ item_names s x
   pub alone : (ts : List Seen) → Unpaired x ts → closes kind ts ≡ false
   pub leaves_on : leaves x ≡ true
+  pub square : is_pair open_list_token kind ≡ is_close_square x
+  pub curly : is_pair open_curly_token kind ≡ is_close_curly x
 
 front_of : (cs rest : Text) → 1 ≤ length cs → slice_index (cs ++ rest) 0 ≡ slice_index cs 0
 front_of [] rest l = absurd (omega (arith, l))
@@ -131,7 +138,8 @@ single x kind cs before h t may = record {
   reads = λ ss n r. (t.some, t.reads (text_of ss) (may (slice_index (text_of ss) 0) n), r);
   no_end = λ ss u. rw (h.no_end, u) refl;
   lexemes = λ d n s ss u. read d n s ss u;
-  names = λ d s ss u. name d s ss u
+  square = λ d ss. h.square;
+  curly = λ d ss. h.curly;
 }
   where
     read : (d : Bool) (n : ℕ) (s : Numbering) (ss : List Segment) → Unpaired x (seen (leaves x) ss) →
@@ -139,8 +147,3 @@ single x kind cs before h t may = record {
     read d n s ss u =
         let closed : closes kind (seen true ss) ≡ false = h.alone (seen true ss) (subst (λ b. Unpaired x (seen b ss)) h.leaves_on u) in
         rw (h.leaves_on, closed, ← h.counted d n s, h.opens n, h.names s) refl
-    name : (d : Bool) (s : Numbering) (ss : List Segment) → Unpaired x (seen (leaves x) ss) →
-        named_seen false s (seen d (written kind cs ∷ ss)) ≡ named_seen false (item_names s x) (seen (leaves x) ss)
-    name d s ss u =
-        let closed : closes kind (seen true ss) ≡ false = h.alone (seen true ss) (subst (λ b. Unpaired x (seen b ss)) h.leaves_on u) in
-        rw (h.leaves_on, closed, h.names s) refl
