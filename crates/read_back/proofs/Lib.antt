@@ -6,6 +6,7 @@ mod Fitting
 mod Forms
 mod Fronts
 mod Grammar
+mod Lexed
 mod Limits
 mod Meaning
 mod Names

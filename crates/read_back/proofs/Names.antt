@@ -240,7 +240,7 @@ is_infix_name : List ℕ → Bool
 is_infix_name f = (bytes_eq f (codes ",") || bytes_eq f (codes ";")) || (is_word_atom f || is_symbol_atom f)
 
 -- what holds of each name of some rows holds of a name that has a row
-holds_of : (p : List ℕ → Bool) (f : List ℕ) (rs : Rows) → list_all (λ r. p r.0) rs ≡ true → is_some (row f rs) ≡ true → p f ≡ true
+pub holds_of : (p : List ℕ → Bool) (f : List ℕ) (rs : Rows) → list_all (λ r. p r.0) rs ≡ true → is_some (row f rs) ≡ true → p f ≡ true
 holds_of p f [] e h = absurd (false≢true h)
 holds_of p f (r ∷ rs) e h = by (bytes_eq r.0 f) refl h (holds_of p f rs (and_parts (p r.0) (list_all (λ r. p r.0) rs) e).1)
   where
