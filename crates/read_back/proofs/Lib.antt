@@ -15,3 +15,4 @@ pub mod Ops
 pub mod Order
 pub mod Pieces
 pub mod Yields
+pub mod Keys
