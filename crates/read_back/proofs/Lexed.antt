@@ -16,7 +16,8 @@ use Rattle.read_back.specs.Spelled.{Item, variable_item, integer_item, name_item
 use Rattle.read_back.proofs.Ascii.{Digits, digits_of}
 use Rattle.read_back.proofs.Segments.{Segment, space, written, text_of, AreRead}
 use Rattle.read_back.proofs.Seen.{Seen, seen, closes, read_seen}
-use Rattle.read_back.proofs.Spelt.{Spelt, Next, Unpaired, is_operand, has_no_end, item_text, item_counted, item_names, leaves, threaded}
+use Rattle.read_back.proofs.Keys.{item_counted, item_names, threaded}
+use Rattle.read_back.proofs.Spelt.{Spelt, Next, Unpaired, is_operand, has_no_end, item_text, leaves}
 use Rattle.read_back.proofs.Numbers.{variable_spelt, integer_spelt, mark_spelt}
 use Rattle.read_back.proofs.Names.{name_spelt, prefix_spelt, infix_spelt, holds_of}
 
@@ -281,7 +282,6 @@ unpaired (infix_item g) xs h f = tt
 -- ---- their lexemes
 
 pub all_threaded : (n : ℕ) (s : Numbering) (x : Item) (xs : List Item) (h : AreSpelt xs) → IsItem x → FollowedBy x xs → read_seen false n s (seen (leaves x) (behind_item x xs h)) ≡ threaded n s (is_tight x) xs
-unfolding threaded
 all_threaded n s x [] h i f = refl
 all_threaded n s x (y ∷ ys) h i f =
     let b = is_spaced (last (item_text x)) (piece_of Quoted x).is_prefix (first (item_text y)) in

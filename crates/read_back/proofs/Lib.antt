@@ -6,6 +6,7 @@ mod Fitting
 mod Forms
 mod Fronts
 mod Grammar
+mod Keys
 mod Lexed
 mod Limits
 mod Meaning

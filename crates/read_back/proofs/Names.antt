@@ -26,7 +26,8 @@ use Rattle.read_back.proofs.Escapes.{append_nil, quoted_bytes, quoted_scalars}
 use Rattle.read_back.proofs.Quotes.{in_quotes, quoted_token_of, held_of}
 use Rattle.read_back.proofs.Segments.{Segment, space, written, text_of}
 use Rattle.read_back.proofs.Seen.{Seen, seen, closes, one_of, read_seen}
-use Rattle.read_back.proofs.Spelt.{Spelt, Single, single, Next, item_text, item_counted, item_names, leaves, after_word, after_symbol}
+use Rattle.read_back.proofs.Keys.{item_counted, item_names}
+use Rattle.read_back.proofs.Spelt.{Spelt, Single, single, Next, item_text, leaves, after_word, after_symbol}
 use Rattle.read_back.proofs.Numbers.{never_closes}
 
 -- a name that passes a test isn't one that doesn't

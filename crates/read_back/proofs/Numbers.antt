@@ -24,7 +24,8 @@ use Rattle.read_back.proofs.Fronts.{IsToken, is_any, ends_word, ends_number, end
 use Rattle.read_back.proofs.Fronts as front
 use Rattle.read_back.proofs.Segments.{Segment, written, text_of}
 use Rattle.read_back.proofs.Seen.{Seen, seen, closes, one_of, read_seen}
-use Rattle.read_back.proofs.Spelt.{Spelt, Single, single, Next, Unpaired, item_text, item_counted, variable_name, after_word, after_number}
+use Rattle.read_back.proofs.Keys.{item_counted, variable_name}
+use Rattle.read_back.proofs.Spelt.{Spelt, Single, single, Next, Unpaired, item_text, after_word, after_number}
 
 -- a kind that opens no list and no curly term
 pub never_closes : (kind : Kind) → ((k : Kind) → is_pair kind k ≡ false) → (ts : List Seen) → closes kind ts ≡ false

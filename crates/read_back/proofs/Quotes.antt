@@ -91,8 +91,10 @@ by_number c l t = by (nat_lt c 16) refl
   where
     is_scalar : scalar c ≡ true
     is_scalar = low_scalar c (omega arith)
+
     digits : Bool → List ℕ
     digits b = 92 ∷ 120 ∷ (cond b (hex_digit c ∷ []) (hex_digit (c / 16) ∷ hex_digit (c % 16) ∷ []) ++ 92 ∷ [])
+
     by : (b : Bool) → nat_lt c 16 ≡ b → parts 39 0 (digits b ++ t) ≡ character c (length (digits b)) ∷ parts 39 0 t
     by true e = one_digit c (hex_digit c) t (hex c (ltb-true c 16 e)) is_scalar
     by false e = two_digits c (c / 16) (c % 16) (hex_digit (c / 16)) (hex_digit (c % 16)) t (hex (c / 16) (omega arith)) (hex (c % 16) (omega arith)) (omega arith) is_scalar

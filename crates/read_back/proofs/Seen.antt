@@ -71,6 +71,7 @@ lexemes_seen text b (t ∷ u ∷ ts) = by (is_pair t.kind u.kind) (lexemes_seen 
   where
     this : Seen
     this = record { kind = t.kind; value = value_at text t; direct = is_direct b t }
+
     by : (c : Bool) →
         map counted (reader.placed text (behind_pair b u) ts) ≡ read_seen false b.brackets b.variables (seen_of text (Some u.to) ts) →
         map counted (reader.placed text (behind text b t) (u ∷ ts)) ≡ read_seen false (open_behind t.kind b.brackets) (variables_behind (value_at text t) b.variables) (seen_of text (Some t.to) (u ∷ ts)) →

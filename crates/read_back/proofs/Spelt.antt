@@ -18,6 +18,7 @@ use Rattle.read_back.specs.Spelled.{Item, variable_item, integer_item, name_item
 use Rattle.read_back.proofs.Ascii.{scalars_append}
 use Rattle.read_back.proofs.Classes.{continues_is, symbol_is}
 use Rattle.read_back.proofs.Fronts.{IsToken, ends_word, ends_number, ends_symbols}
+use Rattle.read_back.proofs.Keys.{item_counted, item_names}
 use Rattle.read_back.proofs.Segments.{Segment, space, written, text_of, AreRead}
 use Rattle.read_back.proofs.Seen.{Seen, seen, closes, Counted, one_of, pair_of, read_seen}
 
@@ -25,27 +26,6 @@ use Rattle.read_back.proofs.Seen.{Seen, seen, closes, Counted, one_of, pair_of, 
 
 abbrev pub item_text : Item → List ℕ
 item_text x = (piece_of Quoted x).text
-
-abbrev pub variable_name : ℕ → List ℕ
-variable_name n = 95 ∷ decimal n
-
-abbrev pub zipped : List Lexeme → List ℕ → List Counted
-zipped [] ns = []
-zipped (k ∷ ks) [] = []
-zipped (k ∷ ks) (n ∷ ns) = (k, n) ∷ zipped ks ns
-
--- its lexemes and how many brackets are open with each, where n are open before it and the variables before it are numbered so
-abbrev pub item_counted : ℕ → Numbering → Bool → Item → List Counted
-item_counted n s d x = zipped (item_lexemes (λ v. number_of s (variable_name v)) d x) (item_brackets n x)
-
-abbrev pub item_names : Numbering → Item → Numbering
-item_names s (variable_item n) = with_variable s (variable_name n)
-item_names s _ = s
-
--- of items from left to right
-unfoldable pub threaded : ℕ → Numbering → Bool → List Item → List Counted
-threaded n s d [] = []
-threaded n s d (x ∷ xs) = item_counted n s d x ++ threaded (open_behind n x) (item_names s x) (is_tight x) xs
 
 -- whether what follows stands directly behind it, where no space is put between
 abbrev pub leaves : Item → Bool
