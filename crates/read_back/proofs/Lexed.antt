@@ -11,7 +11,7 @@ use Rattle.op_table.specs.Table.{row, iso_infix}
 use Rattle.term_core.specs.Tokens.{Text, Kind, open_list_token, open_curly_token}
 use Rattle.prolog_write.specs.declared.mode.Mode.TheVariants.{Quoted}
 use Rattle.prolog_write.specs.Text.{Piece, is_spaced, is_symbol, is_word, first, last, infix_piece, behind}
-use Rattle.prolog_read.specs.Variables.{Numbering}
+use Rattle.prolog_read.specs.Variables.{Numbering, start}
 use Rattle.read_back.specs.Spelled.{Item, variable_item, integer_item, name_item, mark_item, prefix_item, infix_item, Mark, open_round, close_round, open_square, close_square, open_curly, close_curly, comma, bar, piece_of, is_tight, IsItem, FollowedBy, AreApart, may_follow, goes_on, is_close_square, is_close_curly, open_behind}
 use Rattle.read_back.proofs.Ascii.{Digits, digits_of}
 use Rattle.read_back.proofs.Segments.{Segment, space, written, text_of, AreRead}
@@ -281,7 +281,7 @@ unpaired (infix_item g) xs h f = tt
 
 -- ---- their lexemes
 
-pub all_threaded : (n : ℕ) (s : Numbering) (x : Item) (xs : List Item) (h : AreSpelt xs) → IsItem x → FollowedBy x xs → read_seen false n s (seen (leaves x) (behind_item x xs h)) ≡ threaded n s (is_tight x) xs
+all_threaded : (n : ℕ) (s : Numbering) (x : Item) (xs : List Item) (h : AreSpelt xs) → IsItem x → FollowedBy x xs → read_seen false n s (seen (leaves x) (behind_item x xs h)) ≡ threaded n s (is_tight x) xs
 all_threaded n s x [] h i f = refl
 all_threaded n s x (y ∷ ys) h i f =
     let b = is_spaced (last (item_text x)) (piece_of Quoted x).is_prefix (first (item_text y)) in
@@ -289,3 +289,17 @@ all_threaded n s x (y ∷ ys) h i f =
     ∙ h.0.lexemes (flag x y) n s (behind_item y ys h.3) (unpaired y ys h.3 h.2)
     ∙ ap (λ ks. ks ++ read_seen false (open_behind n y) (item_names s y) (seen (leaves y) (behind_item y ys h.3))) (flag_counted x y n s i h.1 f)
     ∙ ap (λ ks. item_counted n s (is_tight x) y ++ ks) (all_threaded (open_behind n y) (item_names s y) y ys h.3 h.1 h.2)
+
+no_flag : (b : Bool) → cond b false false ≡ false
+no_flag true = refl
+no_flag false = refl
+
+-- of a whole text
+pub from_start : (xs : List Item) (h : AreSpelt xs) → read_seen false 0 start (seen false (segments 0 false xs h)) ≡ threaded 0 start false xs
+from_start [] h = refl
+from_start (x ∷ xs) h =
+    let b = is_spaced 0 false (first (item_text x)) in
+    let ss = h.0.segments ++ behind_item x xs h.3 in
+    ap (read_seen false 0 start) (spaced_seen b false ss ∙ ap (λ d. seen d ss) (no_flag b))
+    ∙ h.0.lexemes false 0 start (behind_item x xs h.3) (unpaired x xs h.3 h.2)
+    ∙ ap (λ ks. item_counted 0 start false x ++ ks) (all_threaded (open_behind 0 x) (item_names start x) x xs h.3 h.1 h.2)

@@ -20,4 +20,5 @@ mod Quotes
 mod Seen
 mod Segments
 mod Spelt
+mod Written
 mod Yields
