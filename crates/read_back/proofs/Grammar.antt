@@ -7,6 +7,7 @@ use Rattle.term_core.specs.Flat.{flatten}
 use Rattle.term_core.specs.Variables.{occurrences, variables, place_of, numbered}
 use Rattle.prolog_grammar.specs.Readings.{Reading, IsReading, meaning}
 use Rattle.prolog_grammar.specs.Read.{is_within}
+use Rattle.prolog_read.specs.Reads.{has_range}
 use Rattle.prolog_write.specs.declared.mode.Mode.{Mode}
 use Rattle.prolog_write.specs.declared.place.Place.{Place}
 use Rattle.prolog_write.specs.Text.{most}
@@ -15,7 +16,7 @@ use Rattle.read_back.specs.Spelled.{Item, lexemes, item_variables, brackets}
 use Rattle.read_back.specs.Layout.{layout, items, read_as}
 use Rattle.read_back.proofs.Ops.{before_row, between_row}
 use Rattle.read_back.proofs.Fitting.{right}
-use Rattle.read_back.proofs.Limits.{has_range, ranged, within}
+use Rattle.read_back.proofs.Limits.{ranged, within}
 use Rattle.read_back.proofs.Meaning.{means}
 use Rattle.read_back.proofs.Nesting.{brackets_below}
 use Rattle.read_back.proofs.Order.{item_variables-items}

@@ -9,13 +9,8 @@ use Rattle.term_core.specs.Flat.{flatten, flatten_all}
 use Rattle.term_core.specs.Variables.{map_variables, map_all_variables}
 use Rattle.term_core.proofs.Renaming.{depth-map_variables, IsTerm-map_variables}
 use Rattle.prolog_grammar.specs.Read.{has_arguments, is_within}
-use Rattle.term_core.specs.declared.node.Node.{Node}
-use Rattle.term_core.specs.declared.node.Node.TheVariants.{Int}
+use Rattle.prolog_read.specs.Reads.{has_range}
 use Rattle.read_back.specs.Sound.{IsSized, HasValues, HaveValues}
-
-abbrev pub has_range : Node → Bool
-has_range (Int z) = int_le (neg_ℤ (pos (2 ^ 127))) z && int_le z (pos (2 ^ 127 - 1))
-has_range _ = true
 
 at_most : (a b : ℕ) → a ≤ b → nat_le a b ≡ true
 at_most a b h = grind (arith, h)

@@ -5,14 +5,17 @@ use Rattle.std.specs.Str.{chars, encode_utf8_all}
 use Rattle.std.proofs.Common.{arith, ap, ◌∙◌, sym, subst, append-nil}
 use Rattle.std.proofs.lemmas.Bool.{and_parts, not-true, false≢true}
 use Rattle.std.proofs.lemmas.List.Elements.{All-nil, All-cons}
+use Rattle.std.proofs.lemmas.Option.{same_Some}
 use Rattle.std.proofs.lemmas.Str.{chars-encodes}
 use Rattle.term_core.specs.Tree.{Tree, depth}
-use Rattle.term_core.specs.Tokens.{Token}
+use Rattle.term_core.specs.Tokens.{Token, Tokens}
 use Rattle.term_core.specs.Tokens as spec
 use Rattle.term_core.specs.Variables.{numbered, place_of, distinct_after}
 use Rattle.unicode_ident.specs.Ident.{is_xid_start, is_xid_continue}
 use Rattle.prolog_lex.specs.Lexed.{tokens_of}
 use Rattle.prolog_grammar.specs.declared.grammar.lexeme.Placed.{Placed}
+use Rattle.prolog_grammar.specs.Laws.{EveryReadingIsFound}
+use Rattle.prolog_grammar.specs.Readings.{meaning}
 use Rattle.prolog_write.specs.declared.mode.Mode.{Mode}
 use Rattle.prolog_write.specs.declared.mode.Mode.TheVariants.{Plain, Quoted, Canonical}
 use Rattle.prolog_write.specs.declared.place.Place.{Place}
@@ -21,7 +24,7 @@ use Rattle.prolog_write.specs.Text.{behind, pieces, most, text_at}
 use Rattle.prolog_read.specs.Variables.{Names, start}
 use Rattle.prolog_read.specs.Lexemes.{nothing_before, lexemes}
 use Rattle.prolog_read.specs.Lexemes as reader
-use Rattle.prolog_read.specs.Reads.{before_end, from_end, is_end, names_of, IsTermOf, Reads}
+use Rattle.prolog_read.specs.Reads.{prefix_of, infix_of, before_end, from_end, is_end, names_of, IsTermOf, Reads}
 use Rattle.prolog_read.specs.Clauses.{iso}
 use Rattle.read_back.specs.Laws.{quotes_names, IsReadAs, IsReadAgain, WhatIsWrittenIsReadAgain}
 use Rattle.read_back.specs.Sound.{IsSound}
@@ -115,15 +118,45 @@ term_of t xs text a r h =
     }
 
 -- the text of items that are read as a term
-read_as : (t : Tree) (xs : List Item) → AreApart xs → AreRead t xs → IsReadAs (written_of xs) t
+record IsRead (written : List ℕ) (t : Tree) : Type 0 where
+  names : Names
+  reads : Reads iso written t names
+
+read_as : (t : Tree) (xs : List Item) → AreApart xs → AreRead t xs → IsRead (written_of xs) (numbered t)
 read_as t xs a r =
     let h = has_tokens xs a in
-    (names_of (written_of xs) h.all, record {
-      all = h.all;
-      tokens = h.tokens;
-      one_end = rw (h.none) (omega arith);
-      term = rw (h.before) (term_of t xs (written_of xs) a r h);
-    })
+    record {
+      names = names_of (written_of xs) h.all;
+      reads = record {
+        all = h.all;
+        tokens = h.tokens;
+        one_end = rw (h.none) (omega arith);
+        term = rw (h.before) (term_of t xs (written_of xs) a r h);
+      };
+    }
+
+-- ---- no other term
+
+same_tokens : (o : Tokens) (ts us : List Token) → o ≡ Ok ts → o ≡ Ok us → us ≡ ts
+same_tokens o ts us e f = cc
+
+one_term : EveryReadingIsFound → (text : List ℕ) (ts : List Token) (t u : Tree) (names others : Names) → IsTermOf iso text ts t names → IsTermOf iso text ts u others → (u ≡ t) × (others ≡ names)
+one_term found text ts t u names others x y =
+    let one = found (prefix_of iso) (infix_of iso) (lexemes text ts) x.reading x.is_reading in
+    let other = found (prefix_of iso) (infix_of iso) (lexemes text ts) y.reading y.is_reading in
+    let same : y.reading ≡ x.reading = same_Some y.reading x.reading (sym other ∙ one) in
+    (y.means ∙ ap meaning same ∙ sym x.means, y.named ∙ sym x.named)
+
+no_other : EveryReadingIsFound → (text : List ℕ) (t : Tree) → IsRead text t → IsReadAs text t
+no_other found text t h = record {
+  names = h.names;
+  reads = h.reads;
+  only = λ u others r.
+    let same : r.all ≡ h.reads.all = same_tokens (tokens_of text) h.reads.all r.all h.reads.tokens r.tokens in
+    one_term found text (before_end h.reads.all) t u h.names others h.reads.term (subst (λ ts. IsTermOf iso text (before_end ts) u others) same r.term);
+}
+
+-- ---- the text of a term
 
 same_piece : (x : Item) → piece_of Canonical x ≡ piece_of Quoted x
 same_piece (item.variable_item n) = refl
@@ -139,11 +172,14 @@ same_pieces Quoted q xs = refl
 same_pieces Canonical q [] = refl
 same_pieces Canonical q (x ∷ xs) = rw (same_piece x) (ap (λ ps. piece_of Quoted x ∷ ps) (same_pieces Canonical refl xs))
 
-at_place : (m : Mode) (t : Tree) (at : Place) → quotes_names m ≡ true → IsSound t → depth t ≤ 1000 → most at ≤ 1200 → IsReadAs (text_at at m t) t
+at_place : (m : Mode) (t : Tree) (at : Place) → quotes_names m ≡ true → IsSound t → depth t ≤ 1000 → most at ≤ 1200 → IsRead (text_at at m t) (numbered t)
 at_place m t at q s d p =
     let xs = items (layout m t at) [] in
     let text : written_of xs ≡ text_at at m t = ap (behind 0 false) (sym (same_pieces m q xs) ∙ spelled m t at s.arguments [] ∙ append-nil (pieces m t at)) in
-    subst (λ w. IsReadAs w t) text (read_as t xs (AreApart-items m t at s.values) (are_read m t at s d p))
+    subst (λ w. IsRead w (numbered t)) text (read_as t xs (AreApart-items m t at s.values) (are_read m t at s d p))
 
-pub written_is_read : WhatIsWrittenIsReadAgain
-written_is_read m t q s d = record { alone = at_place m t Whole q s d (omega arith); argument = at_place m t Argument q s d (omega arith) }
+pub written_is_read : EveryReadingIsFound → WhatIsWrittenIsReadAgain
+written_is_read found m t q s d = record {
+  alone = no_other found (text_at Whole m t) (numbered t) (at_place m t Whole q s d (omega arith));
+  argument = no_other found (text_at Argument m t) (numbered t) (at_place m t Argument q s d (omega arith));
+}

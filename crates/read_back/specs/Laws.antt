@@ -16,14 +16,16 @@ quotes_names Plain = false
 quotes_names Quoted = true
 quotes_names Canonical = true
 
--- a text is read as this term, whose variables are numbered from 0 by first occurrence
-abbrev pub IsReadAs : List ℕ → Tree → Type 0
-IsReadAs written t = (names : Names) × Reads iso written (numbered t) names
+-- with the operators of the standard's table a text is read as this term, and as no other
+pub record IsReadAs (written : List ℕ) (t : Tree) : Type 0 where
+  pub names : Names
+  pub reads : Reads iso written t names
+  pub only : (u : Tree) (others : Names) → Reads iso written u others → (u ≡ t) × (others ≡ names)
 
--- what is written of a term, by itself and as an argument
+-- what is written of a term, by itself and as an argument, is read as the term with its variables numbered from 0 by first occurrence
 pub record IsReadAgain (m : Mode) (t : Tree) : Type 0 where
-  pub alone : IsReadAs (text m t) t
-  pub argument : IsReadAs (argument_text m t) t
+  pub alone : IsReadAs (text m t) (numbered t)
+  pub argument : IsReadAs (argument_text m t) (numbered t)
 
 abbrev pub WhatIsWrittenIsReadAgain : Type 0
 WhatIsWrittenIsReadAgain = (m : Mode) (t : Tree) → quotes_names m ≡ true → IsSound t → depth t ≤ 1000 → IsReadAgain m t
