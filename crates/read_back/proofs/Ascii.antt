@@ -1,10 +1,10 @@
 -- Texts of ASCII, and the digits of numbers.
-use Rattle.std.specs.Prelude.{◌≡◌, refl, ℕ, zero, suc, ◌+◌, ◌-◌, ◌*◌, ◌^◌, ◌<◌, ◌≤◌, Bool, true, false, nat_lt, List, [], ◌∷◌, ◌++◌, length, slice_index, decimal}
+use Rattle.std.specs.Prelude.{◌≡◌, refl, ℕ, suc, ◌+◌, ◌-◌, ◌*◌, ◌^◌, ◌<◌, Bool, true, List, [], ◌∷◌, ◌++◌, length, slice_index, decimal}
 use Rattle.std.specs.List.{list_all, fold}
-use Rattle.std.specs.Char.{is_ascii, is_ascii_digit, digit_value, encode_utf8}
+use Rattle.std.specs.Char.{is_ascii, is_ascii_digit, digit_value}
 use Rattle.std.specs.Str.{encode_utf8_all, all_scalars}
 use Rattle.std.specs.Str.Parse.{AllDigits, digits_value_after}
-use Rattle.std.proofs.Common.{arith, ap, ◌∙◌, sym}
+use Rattle.std.proofs.Common.{arith, ap, ◌∙◌}
 use Rattle.std.proofs.lemmas.Bool.{and_parts, and_from, ltb-true}
 use Rattle.std.proofs.lemmas.Bool.Decides.{nat_tests}
 use Rattle.std.proofs.lemmas.Str.{encode_ascii}

@@ -1,7 +1,7 @@
 -- What the characters of ASCII are, for the lexer and for the writer.
-use Rattle.std.specs.Prelude.{◌≡◌, refl, ℕ, zero, suc, ◌+◌, ◌<◌, ◌≤◌, Bool, true, false, not, ◌&&◌, ◌||◌, ◌==◌, nat_lt}
-use Rattle.std.specs.Char.{is_whitespace, is_ascii_lowercase, is_ascii_digit, is_digit, digit_value}
-use Rattle.std.proofs.Common.{arith, ap, ◌∙◌, sym}
+use Rattle.std.specs.Prelude.{◌≡◌, refl, ℕ, zero, suc, ◌<◌, Bool, true, false, not, ◌&&◌, ◌||◌, ◌==◌}
+use Rattle.std.specs.Char.{is_whitespace, is_ascii_lowercase, is_ascii_digit}
+use Rattle.std.proofs.Common.{arith}
 use Rattle.std.proofs.lemmas.Bool.{false≢true, and_parts, not-true}
 use Rattle.term_core.specs.Tokens as spec
 use Rattle.prolog_lex.specs.Scanned.{begins_name, continues}

@@ -1,5 +1,5 @@
 -- The bytes of a name in quotes are those of its characters in quotes.
-use Rattle.std.specs.Prelude.{◌≡◌, refl, ℕ, ◌+◌, ◌/◌, ◌%◌, ◌<◌, ◌≤◌, Bool, true, false, not, ◌&&◌, nat_lt, cond, List, [], ◌∷◌, ◌++◌}
+use Rattle.std.specs.Prelude.{◌≡◌, refl, ℕ, ◌+◌, ◌/◌, ◌%◌, ◌<◌, ◌≤◌, Bool, true, not, nat_lt, List, [], ◌∷◌, ◌++◌}
 use Rattle.std.specs.Char.{is_ascii, encode_utf8}
 use Rattle.std.specs.List.{list_all, flat_map}
 use Rattle.std.specs.Str.{encode_utf8_all, all_scalars}

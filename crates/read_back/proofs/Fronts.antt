@@ -1,13 +1,13 @@
 -- What stands at the front of a text that was written.
-use Rattle.std.specs.Prelude.{◌≡◌, refl, ℕ, zero, suc, ◌+◌, ◌-◌, ◌*◌, ◌^◌, ◌<◌, ◌≤◌, Bool, true, false, not, ◌&&◌, ◌||◌, ◌==◌, nat_lt, List, [], ◌∷◌, ◌++◌, length, take, drop, if◌then◌else◌, slice_index}
-use Rattle.std.specs.List.{list_all, prefix_len, fold}
-use Rattle.std.specs.Char.{is_whitespace, is_ascii_lowercase, is_ascii_digit, is_digit, digit_value}
+use Rattle.std.specs.Prelude.{◌≡◌, refl, ℕ, suc, ◌+◌, ◌^◌, ◌≤◌, Bool, true, false, not, ◌&&◌, ◌||◌, ◌==◌, nat_lt, [], ◌∷◌, ◌++◌, length, take, if◌then◌else◌, slice_index}
+use Rattle.std.specs.List.{list_all, prefix_len}
+use Rattle.std.specs.Char.{is_whitespace, is_ascii_lowercase, is_ascii_digit, is_digit}
 use Rattle.std.proofs.Common.{arith, ap, ◌∙◌, sym}
 use Rattle.std.proofs.lemmas.Bool.{and_parts, and_from, and_left, and_right, or_from, not-true, eqb-true, le-ltb, false≢true}
 use Rattle.std.proofs.lemmas.Bool.Decides.{nat_tests}
 use Rattle.term_core.specs.Tokens.{Text, Kind, token, name_token, variable_token, integer_token, open_token, close_token, open_list_token, close_list_token, open_curly_token, close_curly_token, comma_token, bar_token}
 use Rattle.term_core.specs.Tokens as spec
-use Rattle.prolog_lex.specs.Scanned.{front, begins_name, continues}
+use Rattle.prolog_lex.specs.Scanned.{front, continues}
 use Rattle.prolog_write.specs.Text.{is_symbol, is_word}
 use Rattle.read_back.proofs.Classes.{lower, digit, symbol, word_below, symbol_below, continues_is, symbol_is}
 

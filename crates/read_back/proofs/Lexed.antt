@@ -1,21 +1,21 @@
 -- The tokens of a text made of items that stand apart.
-use Rattle.std.specs.Prelude.{◌≡◌, refl, ℕ, zero, suc, ◌+◌, ◌-◌, ◌^◌, ◌<◌, ◌≤◌, Bool, true, false, not, ◌&&◌, ◌||◌, ◌==◌, nat_lt, cond, ℤ, pos, negsuc, List, [], ◌∷◌, ◌++◌, length, map, slice_index, codes, decimal, is_some, ⊤}
-use Rattle.std.specs.Char.{is_ascii_lowercase, is_ascii_digit}
+use Rattle.std.specs.Prelude.{◌≡◌, refl, ℕ, ◌^◌, ◌<◌, Bool, true, false, not, ◌&&◌, ◌||◌, ◌==◌, cond, pos, negsuc, List, [], ◌∷◌, ◌++◌, map, slice_index, decimal, ⊤}
+use Rattle.std.specs.Char.{is_ascii_digit}
 use Rattle.std.specs.List.{list_all}
-use Rattle.std.specs.Str.{encode_utf8_all, all_scalars, chars}
-use Rattle.std.proofs.Common.{arith, ap, ◌∙◌, sym, subst, inl, inr}
-use Rattle.std.proofs.lemmas.Bool.{and_parts, or_parts, or_from, or_cases, or_left, or_right, and_left, and_right, not-true, false≢true}
+use Rattle.std.specs.Str.{encode_utf8_all, all_scalars}
+use Rattle.std.proofs.Common.{arith, ap, ◌∙◌, sym, subst}
+use Rattle.std.proofs.lemmas.Bool.{and_parts, or_from, or_left, or_right, and_left, and_right, not-true, false≢true}
 use Rattle.std.proofs.lemmas.Bool.Decides.{nat_tests}
 use Rattle.std.proofs.lemmas.Str.{encode_ascii}
-use Rattle.op_table.specs.Table.{row, iso_infix}
+use Rattle.op_table.specs.Table.{iso_infix}
 use Rattle.term_core.specs.Tokens.{Text, Kind, open_list_token, open_curly_token}
 use Rattle.prolog_write.specs.declared.mode.Mode.TheVariants.{Quoted}
-use Rattle.prolog_write.specs.Text.{Piece, is_spaced, is_symbol, is_word, first, last, infix_piece, behind}
+use Rattle.prolog_write.specs.Text.{is_spaced, is_symbol, is_word, first, last, infix_piece, behind}
 use Rattle.prolog_read.specs.Variables.{Numbering, start}
-use Rattle.read_back.specs.Spelled.{Item, variable_item, integer_item, name_item, mark_item, prefix_item, infix_item, Mark, open_round, close_round, open_square, close_square, open_curly, close_curly, comma, bar, piece_of, is_tight, IsItem, FollowedBy, AreApart, may_follow, goes_on, is_close_square, is_close_curly, open_behind}
+use Rattle.read_back.specs.Spelled.{Item, variable_item, integer_item, name_item, mark_item, prefix_item, infix_item, Mark, open_round, close_round, open_square, close_square, open_curly, close_curly, comma, bar, piece_of, is_tight, IsItem, FollowedBy, AreApart, may_follow, goes_on, open_behind}
 use Rattle.read_back.proofs.Ascii.{Digits, digits_of}
-use Rattle.read_back.proofs.Segments.{Segment, space, written, text_of, AreRead}
-use Rattle.read_back.proofs.Seen.{Seen, seen, closes, read_seen}
+use Rattle.read_back.proofs.Segments.{Segment, space, text_of, AreRead}
+use Rattle.read_back.proofs.Seen.{seen, closes, read_seen}
 use Rattle.read_back.proofs.Keys.{item_counted, item_names, threaded}
 use Rattle.read_back.proofs.Spelt.{Spelt, Next, Unpaired, is_operand, has_no_end, item_text, leaves}
 use Rattle.read_back.proofs.Numbers.{variable_spelt, integer_spelt, mark_spelt}

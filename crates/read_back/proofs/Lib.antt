@@ -20,5 +20,6 @@ mod Quotes
 mod Seen
 mod Segments
 mod Spelt
+mod Terms
 mod Written
 mod Yields

@@ -1,5 +1,5 @@
 -- The limits of what is read hold of a term's numbered copy.
-use Rattle.std.specs.Prelude.{◌≡◌, refl, ℕ, ◌≤◌, ◌<◌, ◌^◌, ◌-◌, ℤ, pos, negsuc, neg_ℤ, int_le, Bool, true, ◌&&◌, nat_le}
+use Rattle.std.specs.Prelude.{◌≡◌, refl, ℕ, ◌≤◌, ◌<◌, ◌^◌, ◌-◌, ℤ, pos, negsuc, neg_ℤ, int_le, true, ◌&&◌, nat_le}
 use Rattle.std.specs.List.{list_all}
 use Rattle.std.proofs.Common.{arith, ◌∙◌}
 use Rattle.std.proofs.lemmas.Bool.{and_from}

@@ -1,31 +1,29 @@
 -- The tokens of names and of operators.
-use Rattle.std.specs.Prelude.{◌≡◌, refl, ℕ, zero, suc, ◌+◌, ◌-◌, ◌/◌, ◌%◌, ◌<◌, ◌≤◌, Bool, true, false, not, ◌&&◌, ◌||◌, ◌==◌, nat_lt, cond, List, [], ◌∷◌, ◌++◌, length, slice_index, codes, bytes_eq, is_some, Option, Some, None}
-use Rattle.std.specs.Char.{is_ascii, is_ascii_lowercase, encode_utf8}
-use Rattle.std.specs.List.{list_all, flat_map}
-use Rattle.std.specs.Str.{encode_utf8_all, all_scalars, chars, IsUtf8}
+use Rattle.std.specs.Prelude.{◌≡◌, refl, ℕ, ◌<◌, Bool, true, false, not, ◌&&◌, ◌||◌, ◌==◌, cond, List, [], ◌∷◌, ◌++◌, length, codes, bytes_eq, is_some, Some}
+use Rattle.std.specs.Char.{is_ascii, is_ascii_lowercase}
+use Rattle.std.specs.List.{list_all}
+use Rattle.std.specs.Str.{encode_utf8_all, chars, IsUtf8}
 use Rattle.std.proofs.Common.{arith, ap, ◌∙◌, sym, subst, inl, inr, append_assoc}
-use Rattle.std.proofs.lemmas.Bool.{and_parts, and_from, and_right, or_parts, or_from, or_cases, cases_Bool, not_from_false, not-true, lt-ltb, ltb-true, ltb-false, le-ltb, cases_Bool, false≢true}
+use Rattle.std.proofs.lemmas.Bool.{and_parts, and_right, or_parts, or_from, or_cases, cases_Bool, not_from_false, not-true, lt-ltb, ltb-true, cases_Bool, false≢true}
 use Rattle.std.proofs.lemmas.Bool.Decides.{nat_tests}
-use Rattle.std.proofs.lemmas.List.Concat.{flat_map-append}
 use Rattle.std.proofs.lemmas.Str.{encodes-append, encodes-chars, scalars-chars, encode_ascii}
-use lib.Utf8.{scalar}
 use Rattle.op_table.specs.Table.{Rows, row, iso_prefix, iso_infix}
 use Rattle.term_core.specs.Tokens.{Text, Kind, name_token, quoted_token, open_list_token, close_list_token, open_curly_token, close_curly_token, comma_token}
 use Rattle.term_core.specs.Tokens as spec
-use Rattle.prolog_write.specs.Text.{is_word, is_symbol, is_bare, is_word_atom, is_symbol_atom, is_solo_atom, escaped, quoted, is_spaced, first, last}
+use Rattle.prolog_write.specs.Text.{is_word, is_symbol, is_bare, is_word_atom, is_symbol_atom, is_solo_atom, quoted, is_spaced, first, last}
 use Rattle.prolog_read.specs.Variables.{Numbering}
 use Rattle.prolog_grammar.specs.declared.grammar.lexeme.Lexeme.TheVariants.{Name}
 use Rattle.prolog_write.specs.declared.mode.Mode.TheVariants.{Quoted}
 use Rattle.read_back.specs.Spelled.{Item, name_item, prefix_item, infix_item, piece_of, word, is_brackets, is_close_square, is_close_curly, open_behind}
 use Rattle.read_back.proofs.Ascii.{ascii_encodes, ascii_scalars, scalars_append, last_all}
-use Rattle.read_back.proofs.Classes.{each_below, at_each, word_below, symbol_below}
+use Rattle.read_back.proofs.Classes.{word_below, symbol_below}
 use Rattle.read_back.proofs.Fronts.{IsToken, is_any, ends_word, ends_symbols, ends_quote, all_too, word_token, symbols_token}
 use Rattle.read_back.proofs.Fronts as front
 use Rattle.read_back.proofs.Ops.{same_name}
-use Rattle.read_back.proofs.Escapes.{append_nil, quoted_bytes, quoted_scalars}
+use Rattle.read_back.proofs.Escapes.{quoted_bytes, quoted_scalars}
 use Rattle.read_back.proofs.Quotes.{in_quotes, quoted_token_of, held_of}
 use Rattle.read_back.proofs.Segments.{Segment, space, written, text_of}
-use Rattle.read_back.proofs.Seen.{Seen, seen, closes, one_of, read_seen}
+use Rattle.read_back.proofs.Seen.{seen, closes, read_seen}
 use Rattle.read_back.proofs.Keys.{item_counted, item_names}
 use Rattle.read_back.proofs.Spelt.{Spelt, Single, single, Next, item_text, leaves, after_word, after_symbol}
 use Rattle.read_back.proofs.Numbers.{never_closes}

@@ -1,10 +1,10 @@
 -- The tokens of variables, integers, brackets and commas.
-use Rattle.std.specs.Prelude.{◌≡◌, refl, ℕ, zero, suc, ◌+◌, ◌-◌, ◌^◌, ◌<◌, ◌≤◌, Bool, true, false, not, ◌&&◌, ◌||◌, ◌==◌, nat_lt, cond, ℤ, pos, negsuc, List, [], ◌∷◌, ◌++◌, length, slice_index, decimal, codes}
+use Rattle.std.specs.Prelude.{◌≡◌, refl, ℕ, suc, ◌-◌, ◌^◌, ◌<◌, ◌≤◌, Bool, true, false, nat_lt, cond, ℤ, pos, negsuc, List, [], ◌∷◌, ◌++◌, length, slice_index, decimal}
 use Rattle.std.specs.Char.{is_ascii, is_ascii_digit}
 use Rattle.std.specs.List.{list_all}
-use Rattle.std.specs.Str.{encode_utf8_all, all_scalars}
-use Rattle.std.proofs.Common.{arith, ap, ◌∙◌, sym, subst}
-use Rattle.std.proofs.lemmas.Bool.{and_parts, and_from, or_parts, not_from_false, lt-ltb, ltb-true}
+use Rattle.std.specs.Str.{encode_utf8_all}
+use Rattle.std.proofs.Common.{arith, ap, ◌∙◌, sym}
+use Rattle.std.proofs.lemmas.Bool.{and_parts, and_from, lt-ltb, ltb-true}
 use Rattle.std.proofs.lemmas.Bool.Decides.{nat_tests}
 use Rattle.std.proofs.lemmas.Str.{encodes-append}
 use Rattle.term_core.specs.Tokens.{Text, Kind, name_token, variable_token, integer_token, open_token, close_token, open_list_token, close_list_token, open_curly_token, close_curly_token, comma_token, bar_token}
@@ -25,7 +25,7 @@ use Rattle.read_back.proofs.Fronts as front
 use Rattle.read_back.proofs.Segments.{Segment, written, text_of}
 use Rattle.read_back.proofs.Seen.{Seen, seen, closes, one_of, read_seen}
 use Rattle.read_back.proofs.Keys.{item_counted, variable_name}
-use Rattle.read_back.proofs.Spelt.{Spelt, Single, single, Next, Unpaired, item_text, after_word, after_number}
+use Rattle.read_back.proofs.Spelt.{Spelt, single, Next, Unpaired, after_word, after_number}
 
 -- a kind that opens no list and no curly term
 pub never_closes : (kind : Kind) → ((k : Kind) → is_pair kind k ≡ false) → (ts : List Seen) → closes kind ts ≡ false

@@ -1,17 +1,15 @@
 -- A name in quotes: its characters are read as they were written.
-use Rattle.std.specs.Prelude.{◌≡◌, refl, ℕ, zero, suc, ◌+◌, ◌-◌, ◌*◌, ◌/◌, ◌%◌, ◌<◌, ◌≤◌, Bool, true, false, not, ◌&&◌, ◌||◌, ◌==◌, nat_lt, cond, List, [], ◌∷◌, ◌++◌, length, take, drop, if◌then◌else◌, slice_index, codes, bytes_eq, Option, Some, None, option_map}
-use Rattle.std.specs.List.{flat_map, prefix_len, fold}
-use Rattle.std.specs.Char.{is_digit, digit_value, encode_utf8, is_whitespace}
-use Rattle.std.specs.Str.{encode_utf8_all, all_scalars}
-use Rattle.std.proofs.Common.{arith, ap, ◌∙◌, sym, subst, append_assoc, length-append}
-use Rattle.std.proofs.lemmas.Bool.{and_parts, not-true, eqb-true, eqb-false, le-ltb, ltb-true, ltb-false, lt-ltb, cond_both, cases_lt, false≢true}
+use Rattle.std.specs.Prelude.{◌≡◌, refl, ℕ, suc, ◌+◌, ◌*◌, ◌/◌, ◌%◌, ◌<◌, ◌≤◌, Bool, true, false, ◌||◌, ◌==◌, nat_lt, cond, List, [], ◌∷◌, ◌++◌, length, slice_index, codes, None}
+use Rattle.std.specs.List.{flat_map}
+use Rattle.std.specs.Char.{is_digit, digit_value}
+use Rattle.std.proofs.Common.{arith, ap, ◌∙◌, append_assoc, length-append}
+use Rattle.std.proofs.lemmas.Bool.{not-true, eqb-true, le-ltb, ltb-true, ltb-false, cond_both}
 use Rattle.std.proofs.lemmas.Bool.Decides.{nat_tests}
-use Rattle.std.proofs.lemmas.List.Concat.{flat_map-append}
 use lib.Utf8.{scalar, low_scalar}
 use Rattle.term_core.specs.Tokens.{Text, Kind, token, quoted_token, Part, character, joint, refused, closing, parts, begun}
 use Rattle.term_core.specs.Tokens as spec
 use Rattle.prolog_lex.specs.Scanned.{front}
-use Rattle.prolog_write.specs.Text.{escaped, hex_digit, hex_digits, quoted}
+use Rattle.prolog_write.specs.Text.{escaped, hex_digit, hex_digits}
 use Rattle.read_back.proofs.Fronts.{IsToken, ends_quote}
 
 -- ---- a byte of a character past ASCII is written as it is

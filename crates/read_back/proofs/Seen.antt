@@ -1,12 +1,12 @@
 -- What the reader sees of the tokens of a text by its segments.
-use Rattle.std.specs.Prelude.{◌≡◌, refl, ℕ, zero, suc, ◌+◌, ◌-◌, ◌<◌, ◌≤◌, Bool, true, false, ◌==◌, List, [], ◌∷◌, ◌++◌, length, map, if◌then◌else◌, Option, Some, None, slice_range, ⊤}
-use Rattle.std.specs.Char.{encode_utf8, len_utf8}
+use Rattle.std.specs.Prelude.{◌≡◌, refl, ℕ, suc, ◌+◌, ◌≤◌, Bool, true, false, ◌==◌, List, [], ◌∷◌, ◌++◌, length, map, if◌then◌else◌, Option, Some, None, slice_range}
+use Rattle.std.specs.Char.{encode_utf8}
 use Rattle.std.specs.Str.{chars, encode_utf8_all, all_scalars}
-use Rattle.std.proofs.Common.{arith, ap, ◌∙◌, sym, subst, append_assoc, length-append}
+use Rattle.std.proofs.Common.{arith, ap, ◌∙◌, sym, append_assoc, length-append}
 use Rattle.std.proofs.lemmas.Bool.{and_parts}
 use Rattle.std.proofs.lemmas.Bool.Decides.{nat_tests}
 use Rattle.std.proofs.lemmas.Grind.{common_steps}
-use Rattle.std.proofs.lemmas.Str.{length-encode, len_utf8_bounds, chars-encodes, encodes-append}
+use Rattle.std.proofs.lemmas.Str.{length-encode, chars-encodes, encodes-append}
 use lib.Utf8.{scalar}
 use Rattle.term_core.specs.Tokens.{Text, Kind, Token, Value, value, size}
 use Rattle.prolog_grammar.specs.declared.grammar.lexeme.Placed.{Placed}

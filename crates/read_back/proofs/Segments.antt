@@ -1,5 +1,5 @@
 -- A text by its segments, and its tokens where each of them is the token in front of what follows.
-use Rattle.std.specs.Prelude.{◌≡◌, refl, ℕ, zero, suc, ◌+◌, ◌-◌, ◌≤◌, List, [], ◌∷◌, ◌++◌, length, take, Ok, Err, ⊤}
+use Rattle.std.specs.Prelude.{◌≡◌, refl, ℕ, suc, ◌+◌, ◌-◌, ◌≤◌, List, [], ◌∷◌, ◌++◌, length, take, Ok, ⊤}
 use Rattle.std.specs.Char.{len_utf8}
 use Rattle.std.proofs.Common.{arith, ap, ◌∙◌}
 use Rattle.unicode_ident.specs.Ident.{is_xid_start, is_xid_continue}

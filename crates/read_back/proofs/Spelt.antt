@@ -1,26 +1,24 @@
 -- The segments of an item, and all that is needed of them.
-use Rattle.std.specs.Prelude.{◌≡◌, refl, ℕ, zero, suc, ◌+◌, ◌-◌, ◌<◌, ◌≤◌, Bool, true, false, not, ◌&&◌, ◌||◌, ◌==◌, List, [], ◌∷◌, ◌++◌, length, slice_index, decimal, if◌then◌else◌, ⊤}
+use Rattle.std.specs.Prelude.{◌≡◌, refl, ℕ, ◌<◌, ◌≤◌, Bool, true, false, not, ◌&&◌, ◌||◌, ◌==◌, List, [], ◌∷◌, ◌++◌, length, slice_index, ⊤}
 use Rattle.std.specs.Char.{is_ascii_lowercase}
 use Rattle.std.specs.Str.{encode_utf8_all, all_scalars}
-use Rattle.std.proofs.Common.{arith, ap, ◌∙◌, sym, subst}
-use Rattle.std.proofs.lemmas.Bool.{and_parts, or_parts, not_from_false, and_from}
+use Rattle.std.proofs.Common.{arith, ap, ◌∙◌, subst}
+use Rattle.std.proofs.lemmas.Bool.{or_parts, not_from_false, and_from}
 use Rattle.std.proofs.lemmas.Str.{encodes-append}
 use Rattle.term_core.specs.Tokens.{Text, Kind, open_list_token, open_curly_token, value}
-use Rattle.term_core.specs.Tokens as spec
-use Rattle.prolog_grammar.specs.declared.grammar.lexeme.Lexeme.{Lexeme}
 use Rattle.prolog_write.specs.declared.mode.Mode.TheVariants.{Quoted}
 use Rattle.prolog_write.specs.Text.{is_spaced, is_symbol, is_word, first, last}
-use Rattle.prolog_read.specs.Variables.{Numbering, number_of, with_variable}
+use Rattle.prolog_read.specs.Variables.{Numbering}
 use Rattle.prolog_read.specs.Reads.{is_end}
 use Rattle.prolog_read.specs.Lexemes.{is_pair, variables_behind}
 use Rattle.prolog_read.specs.Lexemes as reader
-use Rattle.read_back.specs.Spelled.{Item, variable_item, integer_item, name_item, mark_item, prefix_item, infix_item, open_square, open_curly, piece_of, is_tight, is_close_square, is_close_curly, item_lexemes, item_brackets, open_behind}
+use Rattle.read_back.specs.Spelled.{Item, variable_item, integer_item, name_item, mark_item, infix_item, open_square, open_curly, piece_of, is_close_square, is_close_curly, open_behind}
 use Rattle.read_back.proofs.Ascii.{scalars_append}
 use Rattle.read_back.proofs.Classes.{continues_is, symbol_is}
 use Rattle.read_back.proofs.Fronts.{IsToken, ends_word, ends_number, ends_symbols}
 use Rattle.read_back.proofs.Keys.{item_counted, item_names}
 use Rattle.read_back.proofs.Segments.{Segment, space, written, text_of, AreRead}
-use Rattle.read_back.proofs.Seen.{Seen, seen, closes, Counted, one_of, pair_of, read_seen}
+use Rattle.read_back.proofs.Seen.{Seen, seen, closes, one_of, read_seen}
 
 -- ---- what an item is read as
 

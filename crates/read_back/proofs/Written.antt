@@ -1,5 +1,5 @@
 -- The text of a term is read as the term.
-use Rattle.std.specs.Prelude.{◌≡◌, refl, ℕ, ◌+◌, ◌≤◌, Bool, true, false, not, ◌&&◌, cond, List, [], ◌∷◌, ◌++◌, length, map, All, Ok, Option, Some, None}
+use Rattle.std.specs.Prelude.{◌≡◌, refl, ℕ, ◌+◌, ◌≤◌, true, false, not, List, [], ◌∷◌, map, All, Ok, None}
 use Rattle.std.specs.List.{AllByRecursion}
 use Rattle.std.specs.Str.{chars, encode_utf8_all}
 use Rattle.std.proofs.Common.{arith, ap, ◌∙◌, sym, subst, append-nil}
@@ -26,7 +26,7 @@ use Rattle.prolog_read.specs.Lexemes.{nothing_before, lexemes}
 use Rattle.prolog_read.specs.Lexemes as reader
 use Rattle.prolog_read.specs.Reads.{prefix_of, infix_of, before_end, from_end, is_end, names_of, IsTermOf, Reads}
 use Rattle.prolog_read.specs.Clauses.{iso}
-use Rattle.read_back.specs.Laws.{quotes_names, IsReadAs, IsReadAgain, WhatIsWrittenIsReadAgain}
+use Rattle.read_back.specs.Laws.{quotes_names, IsReadAs, WhatIsWrittenIsReadAgain}
 use Rattle.read_back.specs.Sound.{IsSound}
 use Rattle.read_back.specs.Spelled.{Item, piece_of, FollowedBy, AreApart, brackets}
 use Rattle.read_back.specs.Spelled as item
@@ -34,9 +34,9 @@ use Rattle.read_back.specs.Layout.{layout, items}
 use Rattle.read_back.proofs.Apart.{AreApart-items}
 use Rattle.read_back.proofs.Grammar.{AreRead, are_read, key}
 use Rattle.read_back.proofs.Keys.{zipped, threaded, threaded_by_keys, keys, lexemes-zipped, brackets-zipped}
-use Rattle.read_back.proofs.Lexed.{AreSpelt, are_spelt, segments, their_bytes, their_scalars, no_ends, all_read, from_start}
+use Rattle.read_back.proofs.Lexed.{are_spelt, segments, their_bytes, their_scalars, no_ends, all_read, from_start}
 use Rattle.read_back.proofs.Pieces.{spelled}
-use Rattle.read_back.proofs.Seen.{Counted, counted, seen, read_seen, seen_of, lexemes_seen, sees}
+use Rattle.read_back.proofs.Seen.{counted, read_seen, lexemes_seen, sees}
 use Rattle.read_back.proofs.Segments.{Segment, space, written, text_of, placed, lexed}
 use Rattle.read_back.proofs.Spelt.{has_no_end}
 

@@ -1,12 +1,21 @@
 -- What the terms of the code are: a variable's number has 64 bits and an integer 128, names are text, compounds have 1 to 1,024 arguments.
 use Rattle.std.specs.Prelude.{◌<◌, ◌^◌, ℤ, pos, negsuc, ⊤}
 use Rattle.std.specs.Str.{IsUtf8}
+use Rattle.term_core.specs.declared.node.Node.{Node}
+use Rattle.term_core.specs.declared.node.Node.TheVariants.{Var, Int, Atom, Comp}
 use Rattle.term_core.specs.Tree.{Tree, variable, integer, atom, compound, Trees, no_trees, tree, IsTerm}
 
 -- from -2^127 to 2^127 - 1
 abbrev pub IsSized : ℤ → Type 0
 IsSized (pos n) = n < 2 ^ 127
 IsSized (negsuc n) = n < 2 ^ 127
+
+-- of a node of a term
+abbrev pub HasValue : Node → Type 0
+HasValue (Var n) = n < 2 ^ 64
+HasValue (Int z) = IsSized z
+HasValue (Atom f) = IsUtf8 f
+HasValue (Comp f k) = IsUtf8 f
 
 abbrev mutual
   pub HasValues : Tree → Type 0
