@@ -1,5 +1,5 @@
 -- Texts of ASCII, and the digits of numbers.
-use Rattle.std.specs.Prelude.{◌≡◌, refl, ℕ, suc, ◌+◌, ◌-◌, ◌*◌, ◌^◌, ◌<◌, Bool, true, List, [], ◌∷◌, ◌++◌, length, slice_index, decimal}
+use Rattle.std.specs.Prelude.{◌≡◌, refl, ℕ, suc, ◌+◌, ◌-◌, ◌*◌, ◌^◌, ◌<◌, Bool, true, List, [], ◌∷◌, ◌++◌, length, decimal}
 use Rattle.std.specs.List.{list_all, fold}
 use Rattle.std.specs.Char.{is_ascii, is_ascii_digit, digit_value}
 use Rattle.std.specs.Str.{encode_utf8_all, all_scalars}
@@ -19,6 +19,9 @@ ascii_encodes (c ∷ w) e =
     let h = and_parts (is_ascii c) (list_all is_ascii w) e in
     rw (encode_ascii c (ltb-true c 128 h.0), ascii_encodes w h.1) refl
 
+pub ascii_first : (c : ℕ) (cs : List ℕ) → c < 128 → encode_utf8_all (c ∷ cs) ≡ c ∷ encode_utf8_all cs
+ascii_first c cs l = ap (λ bs. bs ++ encode_utf8_all cs) (encode_ascii c l)
+
 pub ascii_scalars : (w : List ℕ) → list_all is_ascii w ≡ true → all_scalars w ≡ true
 ascii_scalars [] e = refl
 ascii_scalars (c ∷ w) e =
@@ -30,15 +33,13 @@ pub scalars_append : (w v : List ℕ) → all_scalars w ≡ true → all_scalars
 scalars_append [] v e f = f
 scalars_append (c ∷ w) v e f = let h = and_parts (scalar c) (all_scalars w) e in and_from _ _ h.0 (scalars_append w v h.1 f)
 
+pub last_behind : (c d : ℕ) (w : List ℕ) → last (c ∷ d ∷ w) ≡ last (d ∷ w)
+last_behind c d w = let more : length (c ∷ d ∷ w) - 1 ≡ suc (length (d ∷ w) - 1) = omega arith in rw more refl
+
 -- the last of a list that passes
 pub last_all : (p : ℕ → Bool) (c : ℕ) (w : List ℕ) → list_all p (c ∷ w) ≡ true → p (last (c ∷ w)) ≡ true
 last_all p c [] e = (and_parts _ _ e).0
-last_all p c (d ∷ w) e =
-    let same : last (c ∷ d ∷ w) ≡ last (d ∷ w) = last_of c d w in
-    ap p same ∙ last_all p d w (and_parts (p c) _ e).1
-  where
-    last_of : (c d : ℕ) (w : List ℕ) → slice_index (c ∷ d ∷ w) (length (c ∷ d ∷ w) - 1) ≡ slice_index (d ∷ w) (length (d ∷ w) - 1)
-    last_of c d w = let more : length (c ∷ d ∷ w) - 1 ≡ suc (length (d ∷ w) - 1) = omega arith in rw more refl
+last_all p c (d ∷ w) e = ap p (last_behind c d w) ∙ last_all p d w (and_parts (p c) _ e).1
 
 -- ---- digits
 

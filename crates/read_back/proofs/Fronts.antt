@@ -1,9 +1,10 @@
 -- What stands at the front of a text that was written.
-use Rattle.std.specs.Prelude.{◌≡◌, refl, ℕ, suc, ◌+◌, ◌^◌, ◌≤◌, Bool, true, false, not, ◌&&◌, ◌||◌, ◌==◌, nat_lt, [], ◌∷◌, ◌++◌, length, take, if◌then◌else◌, slice_index}
+use Rattle.std.specs.Prelude.{◌≡◌, refl, ℕ, suc, ◌+◌, ◌^◌, ◌≤◌, Bool, true, false, not, ◌&&◌, ◌||◌, ◌==◌, nat_lt, [], ◌∷◌, ◌++◌, length, if◌then◌else◌, slice_index}
 use Rattle.std.specs.List.{list_all, prefix_len}
 use Rattle.std.specs.Char.{is_whitespace, is_ascii_lowercase, is_ascii_digit, is_digit}
 use Rattle.std.proofs.Common.{arith, ap, ◌∙◌, sym}
-use Rattle.std.proofs.lemmas.Bool.{and_parts, and_from, and_left, and_right, or_from, not-true, eqb-true, le-ltb, false≢true}
+use Rattle.std.proofs.Math.Seq.{take-append_seam}
+use Rattle.std.proofs.lemmas.Bool.{and_parts, and_from, and_left, and_right, not-true, eqb-true, le-ltb, false≢true}
 use Rattle.std.proofs.lemmas.Bool.Decides.{nat_tests}
 use Rattle.term_core.specs.Tokens.{Text, Kind, token, name_token, variable_token, integer_token, open_token, close_token, open_list_token, close_list_token, open_curly_token, close_curly_token, comma_token, bar_token}
 use Rattle.term_core.specs.Tokens as spec
@@ -80,9 +81,6 @@ no_comment : (c : ℕ) (w rest : Text) → (c == 47 && slice_index w 0 == 42) �
 no_comment c [] rest o s = and_right _ _ (no_star _ s)
 no_comment c (d ∷ w) rest o s = o
 
-symbol_blank : (d : ℕ) → is_symbol d ≡ true → (is_whitespace d || d == 37) ≡ false
-symbol_blank d e = let f = symbol d e in or_from _ _ f.space f.percent
-
 alone : (a : Bool) → (a && true) ≡ false → a ≡ false
 alone true e = e
 alone false e = refl
@@ -153,7 +151,7 @@ semicolon = record { some = omega arith; reads = λ rest s. refl }
 digit_is : (c : ℕ) → is_digit c 10 ≡ is_ascii_digit c
 digit_is c = grind (arith, nat_tests)
 
-digit_word : (c : ℕ) → is_ascii_digit c ≡ true → is_word c ≡ true
+pub digit_word : (c : ℕ) → is_ascii_digit c ≡ true → is_word c ≡ true
 unfolding is_word
 digit_word c e = grind (arith, e)
 
@@ -213,15 +211,11 @@ behind_all : (w rest : Text) → slice_index (w ++ rest) (length w) ≡ slice_in
 behind_all [] rest = refl
 behind_all (c ∷ w) rest = behind_all w rest
 
-take_all : (w rest : Text) → take (length w) (w ++ rest) ≡ w
-take_all [] rest = refl
-take_all (c ∷ w) rest = ap (λ t. c ∷ t) (take_all w rest)
-
 small : (n : ℕ) → n ≤ 2 ^ 127 → nat_lt spec.greatest_integer n ≡ false
 small n l = le-ltb (2 ^ 127) n l
 
 counted_all : (c : ℕ) (w rest : Text) → list_all is_ascii_digit w ≡ true → spec.value_in 10 (c ∷ w) ≤ 2 ^ 127 → spec.counted (suc (length w)) (c ∷ w ++ rest) ≡ token integer_token (suc (length w))
-counted_all c w rest e l = rw (take_all w rest, integer_value c w e, small (spec.value_in 10 (c ∷ w)) l) refl
+counted_all c w rest e l = rw (take-append_seam w rest, integer_value c w e, small (spec.value_in 10 (c ∷ w)) l) refl
 
 decimal_all : (c : ℕ) (w rest : Text) → list_all is_ascii_digit w ≡ true → spec.value_in 10 (c ∷ w) ≤ 2 ^ 127 → ends_number (slice_index rest 0) ≡ true → spec.decimal (c ∷ w ++ rest) ≡ token integer_token (suc (length w))
 decimal_all c w rest e l s =

@@ -5,20 +5,18 @@ use Rattle.std.specs.List.{list_all}
 use Rattle.std.specs.Str.{encode_utf8_all, all_scalars}
 use Rattle.std.proofs.Common.{arith, ap, ◌∙◌, sym, subst}
 use Rattle.std.proofs.lemmas.Bool.{and_parts, or_from, or_left, or_right, and_left, and_right, not-true, false≢true}
-use Rattle.std.proofs.lemmas.Bool.Decides.{nat_tests}
-use Rattle.std.proofs.lemmas.Str.{encode_ascii}
 use Rattle.op_table.specs.Table.{iso_infix}
-use Rattle.term_core.specs.Tokens.{Text, Kind, open_list_token, open_curly_token}
+use Rattle.term_core.specs.Tokens.{Kind, open_list_token, open_curly_token}
 use Rattle.prolog_write.specs.declared.mode.Mode.TheVariants.{Quoted}
 use Rattle.prolog_write.specs.Text.{is_spaced, is_symbol, is_word, first, last, infix_piece, behind}
 use Rattle.prolog_read.specs.Variables.{Numbering, start}
 use Rattle.read_back.specs.Spelled.{Item, variable_item, integer_item, name_item, mark_item, prefix_item, infix_item, Mark, open_round, close_round, open_square, close_square, open_curly, close_curly, comma, bar, piece_of, is_tight, IsItem, FollowedBy, AreApart, may_follow, goes_on, open_behind}
-use Rattle.read_back.proofs.Ascii.{Digits, digits_of}
+use Rattle.read_back.proofs.Ascii.{ascii_first, Digits, digits_of}
 use Rattle.read_back.proofs.Segments.{Segment, space, text_of, AreRead}
 use Rattle.read_back.proofs.Seen.{seen, closes, read_seen}
 use Rattle.read_back.proofs.Keys.{item_counted, item_names, threaded}
 use Rattle.read_back.proofs.Spelt.{Spelt, Next, Unpaired, is_operand, has_no_end, item_text, leaves}
-use Rattle.read_back.proofs.Numbers.{variable_spelt, integer_spelt, mark_spelt}
+use Rattle.read_back.proofs.Numbers.{digit_no_symbol, variable_spelt, integer_spelt, mark_spelt}
 use Rattle.read_back.proofs.Names.{name_spelt, prefix_spelt, infix_spelt, holds_of}
 
 spelt : (x : Item) → IsItem x → Spelt x
@@ -49,11 +47,8 @@ behind_item x xs h = segments (last (item_text x)) (piece_of Quoted x).is_prefix
 
 -- ---- their characters
 
-blank : (cs : Text) → encode_utf8_all (32 ∷ cs) ≡ 32 ∷ encode_utf8_all cs
-blank cs = ap (λ bs. bs ++ encode_utf8_all cs) (encode_ascii 32 (omega arith))
-
 spaced_bytes : (b : Bool) (ss : List Segment) → encode_utf8_all (text_of (cond b (space ∷ []) [] ++ ss)) ≡ cond b (32 ∷ []) [] ++ encode_utf8_all (text_of ss)
-spaced_bytes true ss = blank (text_of ss)
+spaced_bytes true ss = ascii_first 32 (text_of ss) (omega arith)
 spaced_bytes false ss = refl
 
 pub their_bytes : (c : ℕ) (p : Bool) (xs : List Item) (h : AreSpelt xs) → encode_utf8_all (text_of (segments c p xs h)) ≡ behind c p (map (piece_of Quoted) xs)
@@ -178,10 +173,6 @@ spaced_round c p = by_prefix p true _ _ _ refl refl (and_right (is_word c) _ ref
 
 flag_round : (x : Item) → flag x (mark_item open_round) ≡ is_tight x
 flag_round x = ap (λ b. cond b false (leaves x)) (spaced_round (last (item_text x)) (piece_of Quoted x).is_prefix) ∙ unless_prefix x
-
-digit_no_symbol : (d : ℕ) → is_ascii_digit d ≡ true → is_symbol d ≡ false
-unfolding is_symbol
-digit_no_symbol d e = grind (arith, nat_tests, e)
 
 spaced_digit : (c d : ℕ) (p : Bool) → is_word c ≡ false → is_ascii_digit d ≡ true → is_spaced c p d ≡ p
 unfolding is_spaced

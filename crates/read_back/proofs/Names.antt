@@ -6,7 +6,7 @@ use Rattle.std.specs.Str.{encode_utf8_all, chars, IsUtf8}
 use Rattle.std.proofs.Common.{arith, ap, ◌∙◌, sym, subst, inl, inr, append_assoc}
 use Rattle.std.proofs.lemmas.Bool.{and_parts, and_right, or_parts, or_from, or_cases, cases_Bool, not_from_false, not-true, lt-ltb, ltb-true, cases_Bool, false≢true}
 use Rattle.std.proofs.lemmas.Bool.Decides.{nat_tests}
-use Rattle.std.proofs.lemmas.Str.{encodes-append, encodes-chars, scalars-chars, encode_ascii}
+use Rattle.std.proofs.lemmas.Str.{encodes-append, encodes-chars, scalars-chars}
 use Rattle.op_table.specs.Table.{Rows, row, iso_prefix, iso_infix}
 use Rattle.term_core.specs.Tokens.{Text, Kind, name_token, quoted_token, open_list_token, close_list_token, open_curly_token, close_curly_token, comma_token}
 use Rattle.term_core.specs.Tokens as spec
@@ -15,7 +15,7 @@ use Rattle.prolog_read.specs.Variables.{Numbering}
 use Rattle.prolog_grammar.specs.declared.grammar.lexeme.Lexeme.TheVariants.{Name}
 use Rattle.prolog_write.specs.declared.mode.Mode.TheVariants.{Quoted}
 use Rattle.read_back.specs.Spelled.{Item, name_item, prefix_item, infix_item, piece_of, word, is_brackets, is_close_square, is_close_curly, open_behind}
-use Rattle.read_back.proofs.Ascii.{ascii_encodes, ascii_scalars, scalars_append, last_all}
+use Rattle.read_back.proofs.Ascii.{ascii_first, ascii_encodes, ascii_scalars, scalars_append, last_all}
 use Rattle.read_back.proofs.Classes.{word_below, symbol_below}
 use Rattle.read_back.proofs.Fronts.{IsToken, is_any, ends_word, ends_symbols, ends_quote, all_too, word_token, symbols_token}
 use Rattle.read_back.proofs.Fronts as front
@@ -325,12 +325,10 @@ infix_word c w h = record {
     text = rw (p.0) refl
     no_comma : bytes_eq f (codes ",") ≡ false
     no_comma = differ is_word_atom f (codes ",") h refl
-    blank : (cs : Text) → encode_utf8_all (32 ∷ cs) ≡ 32 ∷ encode_utf8_all cs
-    blank cs = ap (λ bs. bs ++ encode_utf8_all cs) (encode_ascii 32 (omega arith))
     bytes : (ss : List Segment) → encode_utf8_all (32 ∷ (f ++ 32 ∷ text_of ss)) ≡ item_text (infix_item f) ++ encode_utf8_all (text_of ss)
     bytes ss =
-        blank (f ++ 32 ∷ text_of ss)
-        ∙ ap (λ bs. 32 ∷ bs) (encodes-append f (32 ∷ text_of ss) ∙ ap (λ bs. bs ++ encode_utf8_all (32 ∷ text_of ss)) (ascii_encodes f ascii) ∙ ap (λ bs. f ++ bs) (blank (text_of ss)) ∙ sym (append_assoc f (32 ∷ []) (encode_utf8_all (text_of ss))))
+        ascii_first 32 (f ++ 32 ∷ text_of ss) (omega arith)
+        ∙ ap (λ bs. 32 ∷ bs) (encodes-append f (32 ∷ text_of ss) ∙ ap (λ bs. bs ++ encode_utf8_all (32 ∷ text_of ss)) (ascii_encodes f ascii) ∙ ap (λ bs. f ++ bs) (ascii_first 32 (text_of ss) (omega arith)) ∙ sym (append_assoc f (32 ∷ []) (encode_utf8_all (text_of ss))))
         ∙ ap (λ t. t ++ encode_utf8_all (text_of ss)) text
     read : (d : Bool) (n : ℕ) (s : Numbering) (ss : List Segment) → closes name_token (seen false ss) ≡ false →
         read_seen false n s (record { kind = name_token; value = spec.value name_token f; direct = false } ∷ seen false ss) ≡

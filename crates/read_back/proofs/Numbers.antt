@@ -1,10 +1,10 @@
 -- The tokens of variables, integers, brackets and commas.
-use Rattle.std.specs.Prelude.{◌≡◌, refl, ℕ, suc, ◌-◌, ◌^◌, ◌<◌, ◌≤◌, Bool, true, false, nat_lt, cond, ℤ, pos, negsuc, List, [], ◌∷◌, ◌++◌, length, slice_index, decimal}
+use Rattle.std.specs.Prelude.{◌≡◌, refl, ℕ, suc, ◌^◌, ◌<◌, ◌≤◌, Bool, true, false, nat_lt, cond, ℤ, pos, negsuc, List, [], ◌∷◌, ◌++◌, slice_index, decimal}
 use Rattle.std.specs.Char.{is_ascii, is_ascii_digit}
 use Rattle.std.specs.List.{list_all}
 use Rattle.std.specs.Str.{encode_utf8_all}
 use Rattle.std.proofs.Common.{arith, ap, ◌∙◌, sym}
-use Rattle.std.proofs.lemmas.Bool.{and_parts, and_from, lt-ltb, ltb-true}
+use Rattle.std.proofs.lemmas.Bool.{not_from_false, and_parts, and_from, lt-ltb, ltb-true}
 use Rattle.std.proofs.lemmas.Bool.Decides.{nat_tests}
 use Rattle.std.proofs.lemmas.Str.{encodes-append}
 use Rattle.term_core.specs.Tokens.{Text, Kind, name_token, variable_token, integer_token, open_token, close_token, open_list_token, close_list_token, open_curly_token, close_curly_token, comma_token, bar_token}
@@ -18,9 +18,9 @@ use Rattle.prolog_read.specs.Lexemes as reader
 use Rattle.read_back.specs.Spelled.{Item, variable_item, integer_item, mark_item, Mark, mark_text, mark_lexeme, is_opening, is_close_square, is_close_curly, open_behind}
 use Rattle.read_back.specs.Spelled as item
 use Rattle.read_back.specs.Sound.{IsSized}
-use Rattle.read_back.proofs.Ascii.{Digits, digits_of, ascii_encodes, ascii_scalars, scalars_append, last_all}
-use Rattle.read_back.proofs.Classes.{digit_below}
-use Rattle.read_back.proofs.Fronts.{IsToken, is_any, ends_word, ends_number, ends_symbols, all_too, underscore_token, symbols_token, number_token, integer_value}
+use Rattle.read_back.proofs.Ascii.{last_behind, Digits, digits_of, ascii_encodes, ascii_scalars, scalars_append, last_all}
+use Rattle.read_back.proofs.Classes.{digit_below, symbol_is}
+use Rattle.read_back.proofs.Fronts.{digit_word, IsToken, is_any, ends_word, ends_number, ends_symbols, all_too, underscore_token, symbols_token, number_token, integer_value}
 use Rattle.read_back.proofs.Fronts as front
 use Rattle.read_back.proofs.Segments.{Segment, written, text_of}
 use Rattle.read_back.proofs.Seen.{Seen, seen, closes, one_of, read_seen}
@@ -34,10 +34,6 @@ never_closes kind h (u ∷ us) = h u.kind
 
 digit_ascii : (c : ℕ) → is_ascii_digit c ≡ true → is_ascii c ≡ true
 digit_ascii c e = lt-ltb c 128 (digit_below c e)
-
-digit_word : (c : ℕ) → is_ascii_digit c ≡ true → is_word c ≡ true
-unfolding is_word
-digit_word c e = grind (arith, e)
 
 -- ---- variables
 
@@ -103,12 +99,12 @@ minus_token : IsToken name_token (45 ∷ []) ends_symbols
 unfolding is_symbol
 minus_token = symbols_token 45 [] refl refl refl
 
-digit_no_symbol : (c : ℕ) → is_ascii_digit c ≡ true → ends_symbols c ≡ true
-unfolding spec.is_symbol
+pub digit_no_symbol : (c : ℕ) → is_ascii_digit c ≡ true → is_symbol c ≡ false
+unfolding is_symbol
 digit_no_symbol c e = grind (arith, nat_tests, e)
 
-last_behind : (c d : ℕ) (w : List ℕ) → last (c ∷ d ∷ w) ≡ last (d ∷ w)
-last_behind c d w = let more : length (c ∷ d ∷ w) - 1 ≡ suc (length (d ∷ w) - 1) = omega arith in rw more refl
+ends_at_digit : (c : ℕ) → is_ascii_digit c ≡ true → ends_symbols c ≡ true
+ends_at_digit c e = not_from_false _ (symbol_is c (digit_below c e) ∙ digit_no_symbol c e)
 
 negative_of : (n : ℕ) → n < 2 ^ 127 → Digits (suc n) → Spelt (integer_item (negsuc n))
 negative_of n l h = record {
@@ -117,7 +113,7 @@ negative_of n l h = record {
   bytes = λ ss. bytes ss;
   scalars = λ ss u. and_from _ _ refl (scalars_append cs (text_of ss) (ascii_scalars cs ascii) u);
   front = λ ss. refl;
-  reads = λ ss m r. (omega arith, minus_token.reads (cs ++ text_of ss) (digit_no_symbol h.head (one_digit (suc n) h)), (digits.some, digits.reads (text_of ss) (may (slice_index (text_of ss) 0) m), r));
+  reads = λ ss m r. (omega arith, minus_token.reads (cs ++ text_of ss) (ends_at_digit h.head (one_digit (suc n) h)), (digits.some, digits.reads (text_of ss) (may (slice_index (text_of ss) 0) m), r));
   no_end = λ ss u. u;
   lexemes = λ d k s ss u. read d k s (seen true ss) (never_closes integer_token (λ k. refl) (seen true ss));
   square = λ d ss. refl;

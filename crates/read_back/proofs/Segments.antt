@@ -1,6 +1,7 @@
 -- A text by its segments, and its tokens where each of them is the token in front of what follows.
-use Rattle.std.specs.Prelude.{◌≡◌, refl, ℕ, suc, ◌+◌, ◌-◌, ◌≤◌, List, [], ◌∷◌, ◌++◌, length, take, Ok, ⊤}
+use Rattle.std.specs.Prelude.{◌≡◌, refl, ℕ, suc, ◌+◌, ◌-◌, ◌≤◌, List, [], ◌∷◌, ◌++◌, length, Ok, ⊤}
 use Rattle.std.specs.Char.{len_utf8}
+use Rattle.std.proofs.Math.Seq.{take-append_seam}
 use Rattle.std.proofs.Common.{arith, ap, ◌∙◌}
 use Rattle.unicode_ident.specs.Ident.{is_xid_start, is_xid_continue}
 use Rattle.term_core.specs.Tokens.{Text, Kind, token, Token, Tokens, size, with_token, tokens_from}
@@ -32,10 +33,6 @@ AreRead (written kind w ∷ ss) = (1 ≤ length w) × (front (w ++ text_of ss) �
 abbrev read_from : ℕ → ℕ → Text → Tokens
 read_from at skip t = tokens_from is_xid_start is_xid_continue at skip t
 
-take_all : (w rest : Text) → take (length w) (w ++ rest) ≡ w
-take_all [] rest = refl
-take_all (c ∷ w) rest = ap (λ t. c ∷ t) (take_all w rest)
-
 -- so many characters that were read
 past_read : (w rest : Text) (at : ℕ) → read_from at (length w) (w ++ rest) ≡ read_from (at + size w) 0 rest
 unfolding tokens_from
@@ -47,7 +44,7 @@ token_read : (c : ℕ) (w rest : Text) (kind : Kind) (at : ℕ) → front (c ∷
 unfolding tokens_from
 token_read c w rest kind at e =
     let less : suc (length w) - 1 ≡ length w = omega arith in
-    rw (e, take_all w rest, less) (ap (with_token _) (past_read w rest (at + len_utf8 c) ∙ ap (λ n. read_from n 0 rest) (omega arith)))
+    rw (e, take-append_seam w rest, less) (ap (with_token _) (past_read w rest (at + len_utf8 c) ∙ ap (λ n. read_from n 0 rest) (omega arith)))
 
 space_read : (at : ℕ) (t : Text) → read_from at 0 (32 ∷ t) ≡ read_from (at + 1) 0 t
 unfolding tokens_from spec.front
