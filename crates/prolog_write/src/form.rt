@@ -4,18 +4,18 @@ ghost use Rattle.prolog_write.specs.Text.{form, is_operator};
 use crate::mode::Mode;
 use op_table::{Op, iso_infix, iso_prefix};
 
-// How a compound is written.
+/// How a compound is written, as the definition of a text has it.
 #[derive(Clone, Copy, Debug, Drop)]
-pub(crate) enum Form {
-    // `{a}`
+pub enum Form {
+    /// `{a}`
     Curly,
-    // `[a|b]`
+    /// `[a|b]`
     Cell,
-    // `- a`
+    /// `- a`
     Prefix(Op),
-    // `a-b`
+    /// `a-b`
     Infix(Op),
-    // `f(a,b)`
+    /// `f(a,b)`
     Call,
 }
 

@@ -14,7 +14,9 @@ mod stack;
 mod task;
 mod write;
 
+pub use form::Form;
 pub use mode::{Mode, WriteStop};
+pub use place::Place;
 pub use write::{argument_text, text};
 
 #[cfg(test)]

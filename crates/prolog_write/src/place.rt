@@ -1,14 +1,14 @@
 ghost use Rattle.std.specs.Prelude.{◌≡◌};
 ghost use Rattle.prolog_write.specs.Text.{is_operand, most};
 
-// Where a term stands in a text.
+/// Where a term stands in a text, as the definition of a text has it.
 #[derive(Clone, Copy, Debug, Drop, PartialEq, Eq)]
-pub(crate) enum Place {
-    // By itself or within brackets.
+pub enum Place {
+    /// By itself or within brackets.
     Whole,
-    // As an argument or an element of a list.
+    /// As an argument or an element of a list.
     Argument,
-    // As an operand that has at most this priority.
+    /// As an operand that has at most this priority.
     Operand(u32),
 }
 
