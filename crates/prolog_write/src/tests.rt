@@ -5,6 +5,7 @@ use term_core::Term;
 
 // Terms in postfix order, where `f#2` takes two arguments, with their quoted and canonical texts.
 static ROWS: &str = r#"1 -#1 => - 1 => -(1)
+-1 => -1 => -1
 1 -1 -#2 => 1- -1 => -(1,-1)
 a b ,#2 -#1 => - (a,b) => -(','(a,b))
 1 + =#2 => 1=(+) => =(1,+)
@@ -136,8 +137,9 @@ _18446744073709551615 => _18446744073709551615 => _18446744073709551615
 -1 a +#2 => -1+a => +(-1,a)"#;
 
 // Names with what stands for them in quotes.
-static NAMES: [(&str, &str); 8] = [
+static NAMES: [(&str, &str); 9] = [
     ("", "''"),
+    ("\n", "'\\n'"),
     ("hello world", "'hello world'"),
     ("a\nb", "'a\\nb'"),
     ("a\tb", "'a\\tb'"),
