@@ -1,4 +1,5 @@
 pub mod Bodies
+pub mod ByPredicate
 pub mod Clauses
 pub mod Kept
 pub mod Source

@@ -3,6 +3,7 @@
 
 mod bodies;
 mod clause;
+mod clause_map;
 mod fault;
 mod program;
 
