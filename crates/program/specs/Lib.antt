@@ -3,3 +3,4 @@ pub mod ByPredicate
 pub mod Clauses
 pub mod Kept
 pub mod Source
+pub mod Symbols

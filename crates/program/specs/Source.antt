@@ -6,18 +6,14 @@ use Rattle.term_core.specs.declared.read_term.ReadTerm.{ReadTerm}
 use Rattle.term_core.specs.Tree.{Tree, variable, integer, atom, compound, Trees, no_trees, tree, tree_list}
 use Rattle.term_core.specs.Variables.{variables, first_free}
 use Rattle.op_table.specs.Table.{asked}
+use Rattle.program.specs.declared.source.Item.{Item}
+use Rattle.program.specs.declared.source.Item.TheVariants.{Directive, Rule}
 use Rattle.program.specs.declared.fault.ProgFault.{ProgFault}
 use Rattle.program.specs.declared.fault.ProgFault.TheVariants.{BadDirective, NotCallable, Redefines, Memory}
 use Rattle.program.specs.Bodies.{is_body}
 use Rattle.program.specs.Clauses.{Clause, indicator_of, is_for, same_indicator, clauses_of}
 
--- what a term of a source text is
-pub data Item : Type 0 where
-  -- `:- D`
-  Directive : Tree → Item
-  -- `Head :- Body`; a fact's body is `true`
-  Rule : (head body : Tree) → Item
-
+-- What a term of a source text is: `:- D` a directive, `Head :- Body` a rule, and any other term a fact, which is a rule whose body is `true`.
 abbrev pub fact : Tree → Item
 fact t = Rule t (atom (codes "true"))
 
@@ -32,40 +28,41 @@ item_of t = fact t
 
 -- ---- directives
 
--- library(Name)
-abbrev is_library_name : Tree → Bool
-is_library_name (atom name) = true
-is_library_name t = false
+abbrev pub is_one_atom : List Tree → Bool
+is_one_atom (atom name ∷ []) = true
+is_one_atom ts = false
 
-abbrev is_library : Tree → Bool
-is_library (compound f (tree name no_trees)) = bytes_eq f (codes "library") && is_library_name name
+-- library(Name)
+abbrev pub is_library : Tree → Bool
+is_library (compound f ts) = bytes_eq f (codes "library") && is_one_atom (tree_list ts)
 is_library t = false
 
--- an operator that op/3 takes, whatever the operators so far (ISO 13211-1, 8.14.3)
-abbrev is_operator : (priority kind name : Tree) → Bool
-is_operator (integer p) (atom kind) (atom name) = is_ok (asked p kind name)
-is_operator p kind name = false
+-- a library, and what is imported from it
+abbrev pub are_imports : List Tree → Bool
+are_imports (l ∷ []) = is_library l
+are_imports (l ∷ imports ∷ []) = is_library l
+are_imports ts = false
 
-abbrev is_directive_of : List ℕ → List Tree → Bool
-is_directive_of f (l ∷ []) = bytes_eq f (codes "use_module") && is_library l
-is_directive_of f (l ∷ imports ∷ []) = bytes_eq f (codes "use_module") && is_library l
-is_directive_of f (p ∷ kind ∷ name ∷ []) = bytes_eq f (codes "op") && is_operator p kind name
-is_directive_of f ts = false
+-- an operator that op/3 takes, whatever the operators so far (ISO 13211-1, 8.14.3)
+abbrev pub is_operator : List Tree → Bool
+is_operator (integer p ∷ atom kind ∷ atom name ∷ []) = is_ok (asked p kind name)
+is_operator ts = false
 
 -- the directives that are accepted: the use of a library, which has no effect, and op/3
 unfoldable pub is_directive : Tree → Bool
-is_directive (compound f ts) = is_directive_of f (tree_list ts)
+is_directive (compound f ts) =
+    (bytes_eq f (codes "use_module") && are_imports (tree_list ts)) || (bytes_eq f (codes "op") && is_operator (tree_list ts))
 is_directive t = false
 
 -- ---- faults
 
-abbrev begins_with_dollar : List ℕ → Bool
+abbrev pub begins_with_dollar : List ℕ → Bool
 begins_with_dollar [] = false
 begins_with_dollar (c ∷ cs) = c == 36
 
 -- a predicate that no source text may define
 abbrev pub is_taken : List Pi → Pi → Bool
-is_taken reserved pi = list_any (same_indicator pi) reserved || begins_with_dollar pi.name
+is_taken reserved pi = list_any (λ r. same_indicator r pi) reserved || begins_with_dollar pi.name
 
 abbrev redefines : List Pi → ℕ → Pi → Option ProgFault
 redefines reserved n pi = if is_taken reserved pi then Some (Redefines n pi) else None

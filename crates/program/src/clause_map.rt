@@ -6,6 +6,7 @@ ghost use Rattle.program.specs.Clauses.{same_indicator};
 ghost use Rattle.program.specs.ByPredicate.{found, held_at};
 
 use crate::clause::Clause;
+use crate::entry::Entry;
 use std::alloc::Global;
 use std::collections::BTreeMap;
 use std::marker::Model;
@@ -19,13 +20,6 @@ type ByArity = BTreeMap<u32, ByName>;
 pub(crate) struct Place {
     pi: Pi,
     at: usize,
-}
-
-// A clause and the predicate that it is of.
-#[derive(Drop)]
-pub(crate) struct Entry {
-    pub(crate) pi: Pi,
-    pub(crate) clause: Clause,
 }
 
 // A list of clauses, each of which is of a predicate, found by their predicates.
@@ -74,7 +68,6 @@ impl ClauseMap {
 
     // The list with one more clause.
     pub(crate) fn with(self, alloc: Global, entry: Entry) -> Result<ClauseMap, Memory>
-        requires { IsTrue (is_for entry.pi entry.clause.head) }
         ensures { IfOk result (λ m. m ≡ self ++ clause_of entry.clause ∷ []) }
     {
         let ClauseMap {

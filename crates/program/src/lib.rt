@@ -4,8 +4,11 @@
 mod bodies;
 mod clause;
 mod clause_map;
+mod directive;
+mod entry;
 mod fault;
 mod program;
+mod source;
 
 pub use bodies::is_body;
 pub use clause::Clause;

@@ -5,7 +5,7 @@ use Rattle.program.proofs.clause_map.ClauseMap.with.Goals as goal
 pub invariant_of-result : goal.invariant_of-result
 invariant_of-result c =
     rw c.in_ok-push-2.ensures.items
-    (kept_after c.self.inside.by_arity _ c.args.entry.pi c.args.entry.clause c.in_ok-push.ensures c.self.inside.order.items c.self.invariant _ refl (ap length c.found-at.ensures) c.requires)
+    (kept_after c.self.inside.by_arity _ c.args.entry.pi c.args.entry.clause c.in_ok-push.ensures c.self.inside.order.items c.self.invariant _ refl (ap length c.found-at.ensures) c.args.entry.is_of)
 
 pub returns : goal.returns
 returns c =
