@@ -1,6 +1,7 @@
 -- Which trees are bodies, by their nodes from the back.
 use Rattle.std.proofs.Common.{◌≡◌, ℕ, ◌+◌, ◌-◌, ◌<◌, Bool, true, false, ◌&&◌, List, [], ◌∷◌, ◌++◌, length, take, drop, get_or, Option, Some, unwrap_or, refl, ap, sym, ◌∙◌, append_assoc, append-nil, arith}
 use Rattle.std.specs.List.{list_all}
+use Rattle.std.proofs.Math.Seq.{drop-append_seam, take-append_seam}
 use Rattle.std.proofs.lemmas.List.{length-append, at_drop_more}
 use Rattle.std.proofs.lemmas.List.Folds.{list_all-append}
 use Rattle.term_core.specs.declared.node.Node.{Node}
@@ -8,10 +9,6 @@ use Rattle.term_core.specs.Tree.{Tree, variable, integer, atom, compound, Trees,
 use Rattle.term_core.specs.Flat.{flatten, flatten_all}
 use Rattle.program.specs.Bodies.{is_body, are_bodies}
 use Rattle.program.specs.Symbols.{with_node, node_bodies}
-
-drop_front : {A : Type 0} (xs ys : List A) → drop (length xs) (xs ++ ys) ≡ ys
-drop_front [] ys = refl
-drop_front (x ∷ xs) ys = drop_front xs ys
 
 abbrev pub flags : Trees → List Bool
 flags no_trees = []
@@ -33,10 +30,6 @@ all-flags no_trees = refl
 all-flags (tree t ts) =
     list_all-append (λ b. b) (flags ts) (is_body t ∷ []) ∙ ap (λ (b : Bool). b && (is_body t && true)) (all-flags ts) ∙ and_comm (are_bodies ts) (is_body t)
 
-take_front : {A : Type 0} (xs ys : List A) → take (length xs) (xs ++ ys) ≡ xs
-take_front [] ys = refl
-take_front (x ∷ xs) ys = ap (λ zs. x ∷ zs) (take_front xs ys)
-
 flags_kept : (bs : List Bool) (ts : Trees) → length (bs ++ flags ts) - arity ts ≡ length bs
 flags_kept bs ts = omega (arith, length-append bs (flags ts), length-flags ts)
 
@@ -48,7 +41,7 @@ mutual
   node_bodies-flatten (integer z) ns = refl
   node_bodies-flatten (atom f) ns = refl
   node_bodies-flatten (compound f ts) ns =
-      rw (node_bodies-flatten_all ts ns, flags_kept (node_bodies ns) ts, take_front (node_bodies ns) (flags ts), drop_front (node_bodies ns) (flags ts), all-flags ts)
+      rw (node_bodies-flatten_all ts ns, flags_kept (node_bodies ns) ts, take-append_seam (node_bodies ns) (flags ts), drop-append_seam (node_bodies ns) (flags ts), all-flags ts)
 
   pub node_bodies-flatten_all : (ts : Trees) (ns : List Node) → node_bodies (flatten_all ts ++ ns) ≡ node_bodies ns ++ flags ts
   node_bodies-flatten_all no_trees ns = sym (append-nil (node_bodies ns))

@@ -64,20 +64,18 @@ begins_with_dollar (c ∷ cs) = c == 36
 abbrev pub is_taken : List Pi → Pi → Bool
 is_taken reserved pi = list_any (λ r. same_indicator r pi) reserved || begins_with_dollar pi.name
 
-abbrev redefines : List Pi → ℕ → Pi → Option ProgFault
+abbrev pub redefines : List Pi → ℕ → Pi → Option ProgFault
 redefines reserved n pi = if is_taken reserved pi then Some (Redefines n pi) else None
 
--- a clause's fault: its head or its body is no such thing, or it defines a predicate that it may not
-unfoldable pub fault_of_rule : List Pi → ℕ → (head body : Tree) → Option ProgFault
-fault_of_rule reserved n h b =
-    elim (indicator_of h) [
-      | None ↦ Some (NotCallable n)
-      | Some pi ↦ if is_body b then redefines reserved n pi else Some (NotCallable n)
-    ]
+-- a rule's fault, by the predicate that its head is of and whether its body is one
+abbrev pub fault_at : List Pi → ℕ → Option Pi → Bool → Option ProgFault
+fault_at reserved n None is_body = Some (NotCallable n)
+fault_at reserved n (Some pi) false = Some (NotCallable n)
+fault_at reserved n (Some pi) true = redefines reserved n pi
 
 unfoldable pub fault_of : List Pi → ℕ → Item → Option ProgFault
 fault_of reserved n (Directive d) = if is_directive d then None else Some (BadDirective n)
-fault_of reserved n (Rule h b) = fault_of_rule reserved n h b
+fault_of reserved n (Rule h b) = fault_at reserved n (indicator_of h) (is_body b)
 
 -- the fault of the first term that has one, where the first of these terms has the number n; directives are counted
 unfoldable pub first_fault : List Pi → ℕ → List Tree → Option ProgFault

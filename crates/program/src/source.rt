@@ -4,7 +4,7 @@ ghost use Rattle.std.specs.Option.{option_map};
 ghost use Rattle.program.specs.declared.source.Item.TheVariants.{Rule};
 ghost use Rattle.program.specs.Clauses.{indicator_of};
 ghost use Rattle.program.specs.Kept.{clause_of};
-ghost use Rattle.program.specs.Source.{item_of, clause_in, begins_with_dollar, is_taken, fault_of, Tells, IsNumbered};
+ghost use Rattle.program.specs.Source.{fact, item_of, clause_in, begins_with_dollar, is_taken, fault_of, Tells, IsNumbered};
 ghost use Rattle.program.specs.Symbols.{is_neck};
 
 use crate::bodies::is_body;
@@ -75,14 +75,20 @@ pub(crate) fn library_entry(alloc: Global, term: &Term) -> Result<Option<Entry>,
 fn item_in(alloc: Global, term: &Term) -> Result<Item, Memory>
     ensures { IfOk result (λ i. i ≡ item_of term.now) }
 {
-    if is_neck(term.symbol()) {
-        let mut arguments = term.arguments(alloc)?;
-        match (arguments.pop(), arguments.pop()) {
-            (Some(directive), None) => return Ok(Item::Directive(directive)),
-            (Some(body), Some(head)) => return Ok(Item::Rule { head, body }),
-            (None, _) => {}
-        }
+    if !is_neck(term.symbol()) {
+        return fact(alloc, term);
     }
+    let mut arguments = term.arguments(alloc)?;
+    match (arguments.pop(), arguments.pop()) {
+        (Some(directive), None) => Ok(Item::Directive(directive)),
+        (Some(body), Some(head)) => Ok(Item::Rule { head, body }),
+        (None, _) => fact(alloc, term),
+    }
+}
+
+fn fact(alloc: Global, term: &Term) -> Result<Item, Memory>
+    ensures { IfOk result (λ i. i ≡ fact term.now) }
+{
     Ok(Item::Rule {
         head: term.copied(alloc)?,
         body: Term::atom(alloc, "true")?,
