@@ -1,3 +1,4 @@
 pub mod BodyLemmas
 pub mod Keeping
 pub mod SourceLemmas
+pub mod TextLemmas

@@ -1,5 +1,5 @@
 -- What the terms of a source text say: directives and clauses (ISO 13211-1, 7.4), which of them are refused, and the program that they make.
-use Rattle.std.specs.Prelude.{◌≡◌, ℕ, suc, Bool, true, false, not, ◌&&◌, ◌||◌, ◌==◌, List, [], ◌∷◌, ◌++◌, length, map, filter, if◌then◌else◌, codes, bytes_eq, Option, Some, None, is_some, is_ok, ⊤}
+use Rattle.std.specs.Prelude.{◌≡◌, ℕ, ◌+◌, Bool, true, false, not, ◌&&◌, ◌||◌, ◌==◌, List, [], ◌∷◌, ◌++◌, length, map, filter, if◌then◌else◌, codes, bytes_eq, Option, Some, None, is_some, is_ok, ⊤, All}
 use Rattle.std.specs.List.{list_any, filter_map}
 use Rattle.term_core.specs.declared.pi.Pi.{Pi}
 use Rattle.term_core.specs.declared.read_term.ReadTerm.{ReadTerm}
@@ -81,7 +81,7 @@ fault_of reserved n (Rule h b) = fault_at reserved n (indicator_of h) (is_body b
 unfoldable pub first_fault : List Pi → ℕ → List Tree → Option ProgFault
 first_fault reserved n [] = None
 first_fault reserved n (t ∷ ts) =
-    elim (fault_of reserved n (item_of t)) [ None ↦ first_fault reserved (suc n) ts | Some fault ↦ Some fault ]
+    elim (fault_of reserved n (item_of t)) [ None ↦ first_fault reserved (n + 1) ts | Some fault ↦ Some fault ]
 
 -- what is told is the fault found; want of memory is free
 abbrev pub Tells : Option ProgFault → ProgFault → Type 0
@@ -118,3 +118,6 @@ trees_read rs = map (λ r. r.term) rs
 -- the variables are numbered from 0 without a gap: there are as many as numbers below the first free one
 abbrev pub IsNumbered : Tree → Type 0
 IsNumbered t = length (variables t) ≡ first_free t
+
+abbrev pub AreNumbered : List ReadTerm → Type 0
+AreNumbered rs = All (λ r. IsNumbered r.term) rs

@@ -9,6 +9,7 @@ mod entry;
 mod fault;
 mod program;
 mod source;
+mod texts;
 
 pub use bodies::is_body;
 pub use clause::Clause;
