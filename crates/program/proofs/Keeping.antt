@@ -117,9 +117,9 @@ module _ (m n : ByArity) (i : Pi) (c : kept.Clause) (more : (q : Pi) → found n
     kept_after of_i = record {
       held = All-push (IsHeld n) ps p (λ k d b. (stays _ (h.held k d b)).0) (rw (found_there, is_last) (omega (arith, length-append (found m i) (c ∷ []))));
       complete = λ q.
-        ap (clauses_of q) in_order_after
-        ∙ clauses_of-append q (in_order m ps) (clause_of c ∷ [])
-        ∙ rw (h.complete q, more q) (by q (same_indicator i q) (sym (is_for_same i q c.head of_i)));
+          ap (clauses_of q) in_order_after
+          ∙ clauses_of-append q (in_order m ps) (clause_of c ∷ [])
+          ∙ rw (h.complete q, more q) (by q (same_indicator i q) (sym (is_for_same i q c.head of_i)));
     }
       where
         by : (q : Pi) (b : Bool) → is_for q c.head ≡ b → map clause_of (found m q) ++ clauses_of q (clause_of c ∷ []) ≡ map clause_of (if b then found m q ++ c ∷ [] else found m q)

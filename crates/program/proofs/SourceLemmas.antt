@@ -141,9 +141,10 @@ item_below (compound f no_trees) = below_self (compound f no_trees)
 item_below (compound f (tree d no_trees)) =
     either (compound f (tree d no_trees)) (Directive d) (bytes_eq f (codes ":-")) tt
 item_below (compound f (tree h (tree b no_trees))) =
-    either (compound f (tree h (tree b no_trees))) (Rule h b) (bytes_eq f (codes ":-"))
-    (above_left (occurrences h) (occurrences b ++ []),
-    omega (arith, above_left (occurrences b) [], above_right (occurrences h) (occurrences b ++ [])))
+    either (compound f (tree h (tree b no_trees))) (Rule h b) (bytes_eq f (codes ":-")) (
+      above_left (occurrences h) (occurrences b ++ []),
+      omega (arith, above_left (occurrences b) [], above_right (occurrences h) (occurrences b ++ [])),
+    )
 item_below (compound f (tree h (tree b (tree t ts)))) = below_self (compound f (tree h (tree b (tree t ts))))
 
 pub rule_below : (t h b : Tree) → item_of t ≡ Rule h b → (first_free h ≤ first_free t) × (first_free b ≤ first_free t)

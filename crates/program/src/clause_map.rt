@@ -13,6 +13,7 @@ use std::marker::Model;
 use term_core::{Memory, Pi};
 
 type ByName = BTreeMap<String, Vec<Clause>>;
+
 type ByArity = BTreeMap<u32, ByName>;
 
 // The place of a clause: its predicate, and its number among the clauses of that.

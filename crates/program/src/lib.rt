@@ -15,3 +15,6 @@ pub use bodies::is_body;
 pub use clause::Clause;
 pub use fault::ProgFault;
 pub use program::Program;
+
+#[cfg(test)]
+mod tests;

@@ -45,11 +45,7 @@ pub(crate) fn library_clauses(alloc: Global, terms: &[ReadTerm]) -> Result<Claus
     Ok(clauses)
 }
 
-fn with_entry(
-    alloc: Global,
-    clauses: ClauseMap,
-    entry: Option<Entry>,
-) -> Result<ClauseMap, Memory>
+fn with_entry(alloc: Global, clauses: ClauseMap, entry: Option<Entry>) -> Result<ClauseMap, Memory>
     ensures { IfOk result (λ m. m ≡ clauses ++ option_to_list (option_map (λ e. clause_of e.clause) entry)) }
 {
     match entry {
