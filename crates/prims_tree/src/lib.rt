@@ -2,8 +2,12 @@
 //! the engine's primitives over cells also have.
 #![tactic(auto)]
 
+mod kinds;
+mod lists;
 mod offer;
 mod outcome;
+mod results;
+mod values;
 
 pub use offer::{Offer, Offers};
 pub use outcome::Outcome;
