@@ -1,5 +1,5 @@
 // Lists as terms.
-ghost use Rattle.std.specs.Prelude.{◌≡◌, ◌∷◌, ◌++◌, codes, IfOk, OnOk};
+ghost use Rattle.std.specs.Prelude.{◌≡◌, ◌≤◌, ◌∷◌, ◌++◌, length, drop, codes, IfOk, OnOk};
 ghost use Rattle.term_core.specs.declared.node.Node.TheVariants.{Comp};
 ghost use Rattle.term_core.specs.Parts.{symbol_of};
 ghost use Rattle.builtin_table.specs.Lists.{elements, rest as rest_of, is_list as is_list_tree, is_empty_list, list_of as list_of_trees};
@@ -16,13 +16,21 @@ pub(crate) fn list_parts(alloc: Global, term: &Term) -> Result<(Vec<Term>, Term)
     let mut nodes = term.nodes();
     let mut elements = Vec::new(alloc);
     while is_cell(&nodes[0]) {
-        let element = Term::first_of(alloc, &nodes[1..])?;
-        let end = 1 + element.nodes().len();
-        nodes = &nodes[end..];
+        let parts = behind(nodes, 1);
+        let element = Term::first_of(alloc, parts)?;
+        nodes = behind(parts, element.nodes().len());
         elements.push(element)?;
     }
     let rest = Term::first_of(alloc, nodes)?;
     Ok((elements, rest))
+}
+
+// All nodes but so many first ones.
+fn behind(nodes: &[Node], count: usize) -> &[Node]
+    requires { count ≤ length nodes.now }
+    ensures { result.now ≡ drop count nodes.now }
+{
+    &nodes[count..]
 }
 
 // Whether a list cell begins with this node.
@@ -62,7 +70,8 @@ pub(crate) fn list_of(alloc: Global, elements: &[Term]) -> Result<Term, Memory>
         push_cell(alloc, &mut nodes, element.nodes())?;
     }
     nodes.push(Node::Atom(Name::new(alloc, "[]")?))?;
-    Term::first_of(alloc, &nodes)
+    let list = Term::first_of(alloc, &nodes)?;
+    Ok(list)
 }
 
 // Puts a cell's first node and its element's nodes at the end.
