@@ -1,0 +1,4 @@
+//! Cells that stand for terms: the memory of the resumable engine.
+#![tactic(auto)]
+
+mod word;
