@@ -1,1 +1,4 @@
+pub mod Growing
+pub mod Heaps
 pub mod Packing
+pub mod Stacks

@@ -1,5 +1,5 @@
 -- What a word of 64 bits says.
-use Rattle.std.specs.Prelude.{ℕ, ◌+◌, ◌/◌, ◌%◌, ◌^◌, ◌==◌, pos, ◌-ℤ◌, cond}
+use Rattle.std.specs.Prelude.{ℕ, Bool, true, false, ◌+◌, ◌/◌, ◌%◌, ◌^◌, ◌==◌, pos, ◌-ℤ◌, cond}
 use Rattle.store.specs.declared.word.Word.{Word}
 use Rattle.store.specs.declared.word.Shape.{Shape}
 use Rattle.store.specs.declared.word.Shape.TheVariants.{Var, Int, Large, Atom, Comp}
@@ -14,3 +14,11 @@ shape_of_bits bits =
 
 unfoldable pub shape_of : Word → Shape
 shape_of w = shape_of_bits w.bits
+
+-- whether a term with this symbol is known to have no variable
+abbrev pub is_closed_shape : Shape → Bool
+is_closed_shape (Var n) = false
+is_closed_shape (Int z) = true
+is_closed_shape (Large i) = true
+is_closed_shape (Atom i) = true
+is_closed_shape (Comp name count first closed) = closed

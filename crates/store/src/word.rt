@@ -1,6 +1,6 @@
 // A term's outermost symbol in 64 bits, with the place of its arguments.
 ghost use Rattle.std.specs.Prelude.{◌≡◌, ◌<◌, ◌≤◌, ◌^◌, ◌+◌, pos, ◌≤ℤ◌, ◌<ℤ◌, neg_ℤ};
-ghost use Rattle.store.specs.Words.{shape_of};
+ghost use Rattle.store.specs.Words.{shape_of, is_closed_shape};
 
 /// The greatest number of words, and so of cells.
 pub const MAX_CELLS: usize = 1 << 28;
@@ -24,7 +24,7 @@ pub(crate) enum Shape {
         // The place of the first argument; the others follow it.
         first: u64,
         // The term has no variable.
-        ground: bool,
+        closed: bool,
     },
 }
 
@@ -32,7 +32,7 @@ pub(crate) enum Shape {
 // - of a small integer its distance from -2^61;
 // - of a variable its number;
 // - of an atom or a large integer one bit to tell which, and the place in its table;
-// - of a compound one bit for ground, ten for the arguments less one, 23 for the name, 28 for the first argument.
+// - of a compound one bit for closed, ten for the arguments less one, 23 for the name, 28 for the first argument.
 #[derive(Clone, Copy, Debug, Drop)]
 pub(crate) struct Word {
     bits: u64,
@@ -72,20 +72,31 @@ impl Word {
         Word { bits: 8 * name + 2 }
     }
 
-    pub(crate) fn comp(name: u64, count: u32, first: u64, ground: bool) -> Word
+    pub(crate) fn comp(name: u64, count: u32, first: u64, closed: bool) -> Word
         requires name { name < MAX_NAMES }
         requires some { 1 ≤ count }
         requires few { count ≤ 1024 }
         requires first { first < MAX_CELLS }
-        ensures { shape_of result ≡ Shape.Comp name count first ground }
+        ensures { shape_of result ≡ Shape.Comp name count first closed }
     {
         let count = u64::from(count - 1);
         let bits = 3
-            + 4 * u64::from(ground)
+            + 4 * u64::from(closed)
             + 8 * count
             + 8192 * name
             + 68719476736 * first;
         Word { bits }
+    }
+
+    /// Whether the term is known to have no variable.
+    pub(crate) fn is_closed(self) -> bool
+        ensures { result ≡ is_closed_shape (shape_of self) }
+    {
+        match self.shape() {
+            Shape::Var(_) => false,
+            Shape::Int(_) | Shape::Large(_) | Shape::Atom(_) => true,
+            Shape::Comp { closed, .. } => closed,
+        }
     }
 
     /// What the word says.
@@ -110,7 +121,7 @@ impl Word {
             name: self.bits / 8192 % (1 << 23),
             count: (self.bits / 8 % 1024) as u32 + 1,
             first: self.bits / 68719476736,
-            ground: rest % 2 == 1,
+            closed: rest % 2 == 1,
         }
     }
 }
