@@ -116,3 +116,18 @@ module _ (k m : Known) (g : Grows k m) where
       ∙ (λ i. t i ∷ map (word_tree m) (reverse rest))
       ∙ ap (λ ts. compound name (trees_of (take count (trees_on k ws))) ∷ ts)
         (map-grows k m g (reverse rest) (All-reverse (IsWord k) rest w h.rest_words) ∙ ap (map (word_tree k)) h.left ∙ sym (drop-map (word_tree k) count (reverse ws)))
+
+pub trees_on-grows : (k m : Known) → Grows k m → (ws : List Word) (d : Word) → All (IsWord k) ws → trees_on m ws ≡ trees_on k ws
+trees_on-grows k m g ws d h = map-grows k m g (reverse ws) (All-reverse (IsWord k) ws d h)
+
+pub length-trees_on : (k : Known) (ws : List Word) → length (trees_on k ws) ≡ length ws
+length-trees_on k ws = length-map (reverse ws) (word_tree k) ∙ length-reverse ws
+
+-- a leaf on top
+pub leaf_on : (k m : Known) → Grows k m → (ws vs : List Word) (w : Word) (t : Tree) → All (IsWord k) ws → HasTree m w t → trees_on m vs ≡ word_tree m w ∷ trees_on m ws → trees_on m vs ≡ t ∷ trees_on k ws
+leaf_on k m g ws vs w t h has e = e ∙ (λ i. has.tree_is i ∷ trees_on-grows k m g ws w h i)
+
+-- a compound on top, whose name was put down first
+pub compound_on : (k m n : Known) → Grows k m → (ws vs : List Word) (f g : List ℕ) (count : ℕ) → All (IsWord k) ws → f ≡ g → trees_on n vs ≡ gathered f count (trees_on m ws) → trees_on n vs ≡ gathered g count (trees_on k ws)
+compound_on k m n grows ws vs f g count h e t =
+    t ∙ (λ i. gathered (e i) count (trees_on-grows k m grows ws (record { bits = 0 }) h i))

@@ -1,8 +1,11 @@
 // Words that stand for trees, each over the words before it.
-use crate::word::{MAX_CELLS, MAX_NAMES, MAX_VARIABLES, Word};
+ghost use Rattle.std.specs.Prelude.{◌≡◌, ◌+◌, IfOk};
+ghost use Rattle.store.specs.Words.{shape_of};
+
+use crate::word::{MAX_CELLS, MAX_NAMES, MAX_VARIABLES, Shape, Word};
 use std::alloc::Global;
 use std::collections::BTreeMap;
-use term_core::{Memory, Name};
+use term_core::{Memory, Name, Node};
 
 // One above the greatest integer that fits a word.
 const SMALL: i128 = 1 << 61;
@@ -19,11 +22,14 @@ pub(crate) struct Heap {
 }
 
 impl Heap {
-    ghost use Rattle.std.specs.Prelude.{◌≡◌, ◌<◌, ◌≤◌, ◌^◌, [], true, IfOk, OnOk, IfSome, length, slice_index_or, take};
+    ghost use Rattle.std.specs.Prelude.{◌≡◌, ◌<◌, ◌≤◌, ◌^◌, ◌+◌, ◌++◌, ◌∷◌, [], true, IfOk, OnOk, OnErr, IfSome, length, slice_index_or, take};
     ghost use Rattle.std.specs.List.{All, flat_map};
-    ghost use Rattle.store.specs.Heap.{IsHeap, GrownFrom, known_of, HasTree, IsWord, name_at, trees_on, gathered, Lays};
+    ghost use Rattle.store.specs.Heap.{IsHeap, GrownFrom, known_of, HasTree, IsWord, word_tree, name_at, trees_on, gathered, Lays};
     ghost use Rattle.term_core.specs.Tree.{integer, atom};
-    ghost use Rattle.term_core.specs.Variables.{occurrences};
+    ghost use Rattle.term_core.specs.Variables.{occurrences, renamed};
+    ghost use Rattle.term_core.specs.Nodes.{map_node};
+    ghost use Rattle.term_core.specs.Flat.{grow, parse};
+    ghost use Rattle.term_core.specs.Preorder.{count_of, HasArities, AreTermNodes};
 
     pub(crate) fn new(alloc: Global) -> Heap
         ensures heap { IsHeap result }
@@ -38,7 +44,7 @@ impl Heap {
     }
 
     // Where the name stands, after it was put there if need be.
-    fn name(&mut self, alloc: Global, name: &Name) -> Result<u64, Memory>
+    fn name(&mut self, alloc: Global, name: &str) -> Result<u64, Memory>
         requires { IsHeap self.old }
         ensures grown { GrownFrom (known_of self.old) self.new }
         ensures words { self.new.words ≡ self.old.words }
@@ -53,19 +59,22 @@ impl Heap {
         if at >= MAX_NAMES {
             return Err(Memory);
         }
-        self.index.insert(String::from_str(alloc, name.as_str())?, at)?;
-        self.names.push(name.copied(alloc)?)?;
+        self.index.insert(String::from_str(alloc, name)?, at)?;
+        self.names.push(Name::new(alloc, name)?)?;
         Ok(at)
     }
 
     // Where the name stands, where that is known.
-    fn found(&self, name: &Name) -> Option<u64>
+    fn found(&self, name: &str) -> Option<u64>
         ensures room { IfSome result (λ at. at < MAX_NAMES) }
         ensures within { IfSome result (λ at. at < length self.now.names.items) }
         ensures name { IfSome result (λ at. slice_index_or self.now.names.items at [] ≡ name.now) }
     {
-        let at = *self.index.get(name.as_str())?;
-        if at < MAX_NAMES && at < self.names.len() as u64 && self.names[at as usize] == *name {
+        let at = *self.index.get(name)?;
+        if at < MAX_NAMES
+            && at < self.names.len() as u64
+            && self.names[at as usize].as_str() == name
+        {
             return Some(at);
         }
         None
@@ -90,7 +99,7 @@ impl Heap {
     }
 
     // The word of an atom.
-    pub(crate) fn atom(&mut self, alloc: Global, name: &Name) -> Result<Word, Memory>
+    pub(crate) fn atom(&mut self, alloc: Global, name: &str) -> Result<Word, Memory>
         requires { IsHeap self.old }
         ensures grown { GrownFrom (known_of self.old) self.new }
         ensures words { self.new.words ≡ self.old.words }
@@ -142,4 +151,108 @@ impl Heap {
         }
         Ok(closed)
     }
+
+    // The number of words.
+    pub(crate) fn len(&self) -> usize
+        ensures { result ≡ length (known_of self.now).trees }
+    {
+        self.words.len()
+    }
+
+    // Drops the words from a place on.
+    pub(crate) fn cut_back(&mut self, len: usize)
+        requires { IsHeap self.old }
+        ensures heap { IsHeap self.new }
+        ensures trees { (known_of self.new).trees ≡ take len (known_of self.old).trees }
+    {
+        self.words.truncate(len);
+    }
+
+    // Puts a word at the end and tells its place.
+    pub(crate) fn place(&mut self, word: Word) -> Result<u32, Memory>
+        requires heap { IsHeap self.old }
+        requires word { IsWord (known_of self.old) word }
+        ensures grown { GrownFrom (known_of self.old) self.new }
+        ensures place { IfOk result (λ p. p ≡ length (known_of self.old).trees) }
+        ensures ok { OnOk result ((known_of self.new).trees ≡ (known_of self.old).trees ++ word_tree (known_of self.old) word ∷ []) }
+        ensures err { OnErr result ((known_of self.new).trees ≡ (known_of self.old).trees) }
+    {
+        let at = self.words.len();
+        if at >= MAX_CELLS {
+            return Err(Memory);
+        }
+        self.words.push(word)?;
+        Ok(at as u32)
+    }
+
+    // Takes a node's arguments from the last words, and puts its word in their place.
+    fn put_node(
+        &mut self,
+        alloc: Global,
+        pending: &mut Vec<Word>,
+        node: &Node,
+        base: u64,
+    ) -> Result<(), Memory>
+        requires heap { IsHeap self.old }
+        requires arity { HasArities (node.now ∷ []) }
+        requires enough { count_of node.now ≤ length pending.old.items }
+        requires pending { All (IsWord (known_of self.old)) pending.old.items }
+        ensures grown { GrownFrom (known_of self.old) self.new }
+        ensures pending { OnOk result (All (IsWord (known_of self.new)) pending.new.items) }
+        ensures trees { OnOk result (trees_on (known_of self.new) pending.new.items
+            ≡ grow (map_node (λ n. n + base) node.now) (trees_on (known_of self.old) pending.old.items)) }
+    {
+        match node {
+            Node::Var(number) => self.put_leaf(pending, variable(*number, base)?),
+            Node::Int(value) => {
+                let word = self.integer(*value)?;
+                self.put_leaf(pending, word)
+            }
+            Node::Atom(name) => {
+                let word = self.atom(alloc, name.as_str())?;
+                self.put_leaf(pending, word)
+            }
+            Node::Comp(name, count) => {
+                let at = self.name(alloc, name.as_str())?;
+                self.gather(pending, at, *count)
+            }
+        }
+    }
+
+    fn put_leaf(&self, pending: &mut Vec<Word>, word: Word) -> Result<(), Memory>
+        requires word { IsWord (known_of self.now) word }
+        requires pending { All (IsWord (known_of self.now)) pending.old.items }
+        ensures pending { OnOk result (All (IsWord (known_of self.now)) pending.new.items) }
+        ensures trees { OnOk result (trees_on (known_of self.now) pending.new.items
+            ≡ word_tree (known_of self.now) word ∷ trees_on (known_of self.now) pending.old.items) }
+    {
+        pending.push(word)?;
+        Ok(())
+    }
+
+    // The word of the first term of these nodes, with `base` added to the numbers of its variables.
+    pub(crate) fn put(&mut self, alloc: Global, nodes: &[Node], base: u64) -> Result<Word, Memory>
+        requires heap { IsHeap self.old }
+        requires some { 0 < length nodes.now }
+        requires terms { AreTermNodes nodes.now }
+        ensures grown { GrownFrom (known_of self.old) self.new }
+        ensures word { IfOk result (λ w. HasTree (known_of self.new) w (renamed base (parse nodes.now))) }
+    {
+        let mut pending = Vec::new(alloc);
+        for i in 0..nodes.len() {
+            self.put_node(alloc, &mut pending, &nodes[nodes.len() - 1 - i], base)?;
+        }
+        Ok(pending.pop().unwrap())
+    }
+}
+
+// The word of a variable.
+pub(crate) fn variable(number: u64, base: u64) -> Result<Word, Memory>
+    ensures { IfOk result (λ w. shape_of w ≡ Shape.Var (number + base)) }
+{
+    let number = number.checked_add(base).ok_or(Memory)?;
+    if number >= MAX_VARIABLES {
+        return Err(Memory);
+    }
+    Ok(Word::var(number))
 }
