@@ -21,13 +21,13 @@ grow-map f (Int z) ts = refl
 grow-map f (Atom a) ts = refl
 grow-map f (Comp g k) ts = (λ i. compound g ((ap trees_of (take-map (map_variables f) k ts) ∙ sym (map_all_variables-trees_of f (take k ts))) i) ∷ drop-map (map_variables f) k ts i)
 
--- the node before those that were put
-pub node_before : (ns : List Node) (i : ℕ) (n : Node) → i < length ns → n ≡ get_or ns (length ns - 1 - i) n → drop (length ns - (i + 1)) ns ≡ n ∷ drop (length ns - i) ns
-node_before ns i n h e =
-    let at = length ns - 1 - i in
-    let first : drop at ns ≡ get_or ns at n ∷ drop (at + 1) ns = at_drop_more (λ xs. xs) ns at n (omega arith) in
-    ap (λ (j : ℕ). drop j ns) (let f : length ns - (i + 1) ≡ at = omega arith in f) ∙ first
-    ∙ (λ j. sym e j ∷ drop ((let f : at + 1 ≡ length ns - i = omega arith in f) j) ns)
+-- the element before the last i ones
+pub element_before : {A : Type 0} (xs : List A) (i : ℕ) (x : A) → i < length xs → x ≡ get_or xs (length xs - 1 - i) x → drop (length xs - (i + 1)) xs ≡ x ∷ drop (length xs - i) xs
+element_before xs i x h e =
+    let at = length xs - 1 - i in
+    let first : drop at xs ≡ get_or xs at x ∷ drop (at + 1) xs = at_drop_more (λ ys. ys) xs at x (omega arith) in
+    ap (λ (j : ℕ). drop j xs) (let f : length xs - (i + 1) ≡ at = omega arith in f) ∙ first
+    ∙ (λ j. sym e j ∷ drop ((let f : at + 1 ≡ length xs - i = omega arith in f) j) xs)
 
 first_arity : (n : Node) (ns : List Node) → HasArities (n ∷ ns) → HasArities (n ∷ [])
 first_arity (Var m) ns h = tt
@@ -38,14 +38,14 @@ first_arity (Comp f k) ns h = (h.0, h.1, tt)
 -- what that node asks for is there
 pub node_fits : (ns : List Node) (i : ℕ) (n : Node) → AreTermNodes ns → i < length ns → n ≡ get_or ns (length ns - 1 - i) n → HasArities (n ∷ []) × (count_of n ≤ length (build (drop (length ns - i) ns)))
 node_fits ns i n h l e =
-    let those = subst AreTermNodes (node_before ns i n l e) (AreTermNodes-drop (length ns - (i + 1)) ns h) in
+    let those = subst AreTermNodes (element_before ns i n l e) (AreTermNodes-drop (length ns - (i + 1)) ns h) in
     (first_arity n (drop (length ns - i) ns) those.arities, those.preorder.0)
 
 pub one_more_node : (base : ℕ) (ns : List Node) (i : ℕ) (n : Node) (ts us : List Tree) → i < length ns → n ≡ get_or ns (length ns - 1 - i) n → ts ≡ map (renamed base) (build (drop (length ns - i) ns)) → us ≡ grow (map_node (λ m. m + base) n) ts → us ≡ map (renamed base) (build (drop (length ns - (i + 1)) ns))
 one_more_node base ns i n ts us l e so_far more =
     more ∙ ap (grow (map_node (λ m. m + base) n)) so_far
     ∙ grow-map (λ m. m + base) n (build (drop (length ns - i) ns))
-    ∙ ap (λ ms. map (renamed base) (build ms)) (sym (node_before ns i n l e))
+    ∙ ap (λ ms. map (renamed base) (build ms)) (sym (element_before ns i n l e))
 
 all_nodes : (ns : List Node) (i : ℕ) → length ns ≤ i → drop (length ns - i) ns ≡ ns
 all_nodes ns i h = ap (λ (j : ℕ). drop j ns) (let f : length ns - i ≡ 0 = omega arith in f)

@@ -55,6 +55,10 @@ pub record HasTree (k : Known) (w : Word) (t : Tree) : Type 0 where
   pub is_word : IsWord k w
   pub tree_is : word_tree k w ≡ t
 
+-- the tree of a place
+abbrev pub tree_at : Known → ℕ → Tree
+tree_at k p = slice_index_or k.trees p (atom [])
+
 -- the trees of words, the last word's first
 abbrev pub trees_on : Known → List Word → List Tree
 trees_on k ws = map (word_tree k) (reverse ws)

@@ -1,2 +1,4 @@
+pub mod Cells
 pub mod Heap
+pub mod Seen
 pub mod Words

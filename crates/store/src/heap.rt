@@ -2,10 +2,12 @@
 ghost use Rattle.std.specs.Prelude.{◌≡◌, ◌+◌, IfOk};
 ghost use Rattle.store.specs.Words.{shape_of};
 
+use crate::cell::Cell;
+use crate::seen::Seen;
 use crate::word::{MAX_CELLS, MAX_NAMES, MAX_VARIABLES, Shape, Word};
 use std::alloc::Global;
 use std::collections::BTreeMap;
-use term_core::{Memory, Name, Node};
+use term_core::{MAX_NODES, Memory, Name, Node};
 
 // One above the greatest integer that fits a word.
 const SMALL: i128 = 1 << 61;
@@ -22,10 +24,12 @@ pub(crate) struct Heap {
 }
 
 impl Heap {
-    ghost use Rattle.std.specs.Prelude.{◌≡◌, ◌<◌, ◌≤◌, ◌^◌, ◌+◌, ◌++◌, ◌∷◌, [], true, IfOk, OnOk, OnErr, IfSome, length, slice_index_or, take};
+    ghost use Rattle.std.specs.Prelude.{◌≡◌, ◌<◌, ◌≤◌, ◌^◌, ◌+◌, ◌++◌, ◌∷◌, [], true, IfOk, OnOk, OnErr, IfSome, length, slice_index_or, take, map};
     ghost use Rattle.std.specs.List.{All, flat_map};
-    ghost use Rattle.store.specs.Heap.{IsHeap, GrownFrom, known_of, HasTree, IsWord, word_tree, name_at, trees_on, gathered, Lays};
-    ghost use Rattle.term_core.specs.Tree.{integer, atom};
+    ghost use Rattle.store.specs.Heap.{IsHeap, GrownFrom, known_of, HasTree, IsWord, word_tree, tree_at, block, name_at, trees_on, gathered, Lays};
+    ghost use Rattle.term_core.specs.Tree.{integer, atom, compound, trees_of};
+    ghost use Rattle.term_core.specs.Parts.{symbol_of, arguments_of};
+    ghost use Rattle.store.specs.Seen.{seen_node, HasNodes};
     ghost use Rattle.term_core.specs.Variables.{occurrences, renamed};
     ghost use Rattle.term_core.specs.Nodes.{map_node};
     ghost use Rattle.term_core.specs.Flat.{grow, parse};
@@ -243,6 +247,136 @@ impl Heap {
             self.put_node(alloc, &mut pending, &nodes[nodes.len() - 1 - i], base)?;
         }
         Ok(pending.pop().unwrap())
+    }
+
+    // The word of a compound of these cells' trees.
+    pub(crate) fn compound(
+        &mut self,
+        alloc: Global,
+        name: &str,
+        args: &[Cell],
+    ) -> Result<Word, Memory>
+        requires heap { IsHeap self.old }
+        requires some { 1 ≤ length args.now }
+        requires few { length args.now ≤ 1024 }
+        requires cells { All (λ c. c < length (known_of self.old).trees) args.now }
+        ensures grown { GrownFrom (known_of self.old) self.new }
+        ensures word { IfOk result (λ w. HasTree (known_of self.new) w
+            (compound name.now (trees_of (map (tree_at (known_of self.old)) args.now)))) }
+    {
+        let name = self.name(alloc, name)?;
+        let mut pending = self.words_of(alloc, args)?;
+        self.gather(&mut pending, name, args.len() as u32)?;
+        Ok(pending.pop().unwrap())
+    }
+
+    // The words of these cells, the last one first.
+    fn words_of(&self, alloc: Global, cells: &[Cell]) -> Result<Vec<Word>, Memory>
+        requires heap { IsHeap self.now }
+        requires cells { All (λ c. c < length (known_of self.now).trees) cells.now }
+        ensures words { IfOk result (λ v. All (IsWord (known_of self.now)) v.items) }
+        ensures trees { IfOk result (λ v. trees_on (known_of self.now) v.items
+            ≡ map (tree_at (known_of self.now)) cells.now) }
+    {
+        let mut words = Vec::with_capacity(alloc, cells.len())?;
+        for i in 0..cells.len() {
+            words.push(self.word_at(cells[cells.len() - 1 - i]))?;
+        }
+        Ok(words)
+    }
+
+    // The word of a cell.
+    pub(crate) fn word_at(&self, cell: Cell) -> Word
+        requires heap { IsHeap self.now }
+        requires cell { cell < length (known_of self.now).trees }
+        ensures { HasTree (known_of self.now) result (tree_at (known_of self.now) cell) }
+    {
+        self.words[cell.place() as usize]
+    }
+
+    // A word's outermost symbol.
+    pub(crate) fn symbol(&self, word: Word) -> Seen<'_>
+        requires { IsWord (known_of self.now) word }
+        ensures { seen_node result ≡ symbol_of (word_tree (known_of self.now) word) }
+    {
+        match word.shape() {
+            Shape::Var(number) => Seen::Var(number),
+            Shape::Int(value) => Seen::Int(value),
+            Shape::Large(at) => Seen::Int(self.large[at as usize]),
+            Shape::Atom(name) => Seen::Atom(&self.names[name as usize]),
+            Shape::Comp { name, count, .. } => Seen::Comp(&self.names[name as usize], count),
+        }
+    }
+
+    // The place of an argument, counted from 0, of a compound's word.
+    pub(crate) fn argument(&self, word: Word, i: u32) -> u32
+        requires word { IsWord (known_of self.now) word }
+        requires within { i < length (arguments_of (word_tree (known_of self.now) word)) }
+        requires cells { length (known_of self.now).trees < 2 ^ 32 }
+        ensures place { result < length (known_of self.now).trees }
+        ensures tree { tree_at (known_of self.now) result
+            ≡ slice_index_or (arguments_of (word_tree (known_of self.now) word)) i (atom []) }
+    {
+        match word.shape() {
+            Shape::Comp { first, .. } => first as u32 + i,
+            _ => unreachable!(),
+        }
+    }
+
+    // The nodes of a word's term; `None` where they are more than `limit`.
+    pub(crate) fn nodes(
+        &self,
+        alloc: Global,
+        word: Word,
+        limit: u64,
+    ) -> Result<Option<Vec<Node>>, Memory>
+        requires heap { IsHeap self.now }
+        requires word { IsWord (known_of self.now) word }
+        ensures { IfOk result (HasNodes (word_tree (known_of self.now) word) limit) }
+    {
+        let mut nodes = Vec::new(alloc);
+        let mut pending = vec![in alloc; word]?;
+        while let Some(word) = pending.pop() {
+            if nodes.len() as u64 >= limit {
+                return Ok(None);
+            }
+            if nodes.len() >= MAX_NODES {
+                return Err(Memory);
+            }
+            nodes.push(self.symbol(word).node(alloc)?)?;
+            self.push_arguments(&mut pending, word)?;
+        }
+        Ok(Some(nodes))
+    }
+
+    // Puts the words of a word's arguments at the end, the first one last.
+    fn push_arguments(&self, pending: &mut Vec<Word>, word: Word) -> Result<(), Memory>
+        requires heap { IsHeap self.now }
+        requires word { IsWord (known_of self.now) word }
+        requires pending { All (IsWord (known_of self.now)) pending.old.items }
+        ensures pending { OnOk result (All (IsWord (known_of self.now)) pending.new.items) }
+        ensures trees { OnOk result (trees_on (known_of self.now) pending.new.items
+            ≡ arguments_of (word_tree (known_of self.now) word) ++ trees_on (known_of self.now) pending.old.items) }
+    {
+        match word.shape() {
+            Shape::Comp { count, first, .. } => self.push_block(pending, first, count),
+            _ => Ok(()),
+        }
+    }
+
+    fn push_block(&self, pending: &mut Vec<Word>, first: u64, count: u32) -> Result<(), Memory>
+        requires heap { IsHeap self.now }
+        requires within { first + count ≤ length (known_of self.now).trees }
+        requires pending { All (IsWord (known_of self.now)) pending.old.items }
+        ensures pending { OnOk result (All (IsWord (known_of self.now)) pending.new.items) }
+        ensures trees { OnOk result (trees_on (known_of self.now) pending.new.items
+            ≡ block (known_of self.now) first count ++ trees_on (known_of self.now) pending.old.items) }
+    {
+        for i in 0..count {
+            let at = first as usize + (count - 1 - i) as usize;
+            pending.push(self.words[at])?;
+        }
+        Ok(())
     }
 }
 
