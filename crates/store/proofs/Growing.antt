@@ -168,4 +168,5 @@ module _ (names : List (List ℕ)) (large : List ℤ) (names' : List (List ℕ))
   AreWords-tables ts [] h = tt
   AreWords-tables ts (w ∷ ws) h = (
     IsShape-grows (with_trees names large ts) (with_trees names' large' ts) (wider ts) (shape_of w) h.0,
-    subst (λ (t : Tree). AreWords names' large' (ts ++ t ∷ []) ws) (sym (same_next ts w h.0)) (AreWords-tables (ts ++ word_tree (with_trees names large ts) w ∷ []) ws h.1))
+    subst (λ (t : Tree). AreWords names' large' (ts ++ t ∷ []) ws) (sym (same_next ts w h.0)) (AreWords-tables (ts ++ word_tree (with_trees names large ts) w ∷ []) ws h.1),
+  )

@@ -45,8 +45,8 @@ module _ (h i : Heap) (is : IsHeap h) (w : Word) (t : Tree) (n : i.names.items �
   words-push =
       subst (λ (ns : List (List ℕ)). AreWords ns i.large.items [] i.words.items) (sym n)
       (subst (λ (zs : List ℤ). AreWords h.names.items zs [] i.words.items) (sym l)
-       (subst (λ (vs : List Word). AreWords h.names.items h.large.items [] vs) (sym ws)
-        (AreWords-push h.names.items h.large.items [] h.words.items w is.words has.is_word)))
+      (subst (λ (vs : List Word). AreWords h.names.items h.large.items [] vs) (sym ws)
+      (AreWords-push h.names.items h.large.items [] h.words.items w is.words has.is_word)))
 
   pub GrownFrom-push : GrownFrom (known_of h) i
   GrownFrom-push = record {
@@ -70,8 +70,8 @@ module _ (h i : Heap) (is : IsHeap h) (p : ℕ) (n : i.names.items ≡ h.names.i
     words =
         subst (λ (ns : List (List ℕ)). AreWords ns i.large.items [] i.words.items) (sym n)
         (subst (λ (zs : List ℤ). AreWords h.names.items zs [] i.words.items) (sym l)
-         (subst (λ (vs : List Word). AreWords h.names.items h.large.items [] vs) (sym ws)
-          (AreWords-take h.names.items h.large.items [] h.words.items p is.words)));
+        (subst (λ (vs : List Word). AreWords h.names.items h.large.items [] vs) (sym ws)
+        (AreWords-take h.names.items h.large.items [] h.words.items p is.words)));
   }
 
 -- a word and the tree at its place

@@ -38,11 +38,15 @@ module _ (k : Known) (w : Word) (name count first : ℕ) (closed : Bool) (s : Co
   pub compound_arguments : arguments_of (word_tree k w) ≡ block k first count
   compound_arguments = ap arguments_of compound_tree ∙ tree_list-trees_of (block k first count)
 
+  pub argument_below : (i : ℕ) → i < length (arguments_of (word_tree k w)) → i < 1024
+  argument_below i l = omega (arith, ap length compound_arguments, length-block, is_compound.few)
+
   pub argument_at : (i : ℕ) → i < length (arguments_of (word_tree k w)) → (first + i < length k.trees) × (tree_at k (first + i) ≡ get_or (arguments_of (word_tree k w)) i (atom []))
   argument_at i l =
-      let j : i < count = omega (arith, ap length compound_arguments, length-block) in
-      (omega (arith, is_compound.within),
-       sym (ap (λ ts. get_or ts i (atom [])) compound_arguments ∙ get_or-take count (drop first k.trees) i (atom []) j ∙ get_or-drop first k.trees i (atom [])))
+      let j : i < count = omega (arith, ap length compound_arguments, length-block) in (
+        omega (arith, is_compound.within),
+        sym (ap (λ ts. get_or ts i (atom [])) compound_arguments ∙ get_or-take count (drop first k.trees) i (atom []) j ∙ get_or-drop first k.trees i (atom [])),
+      )
 
 -- cells stand for the same trees when more is known
 pub same_cells : (k m : Known) → Grows k m → (cs : List ℕ) → All (λ c. c < length k.trees) cs → map (tree_at m) cs ≡ map (tree_at k) cs

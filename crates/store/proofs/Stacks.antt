@@ -53,9 +53,12 @@ module _ (k m : Known) (g : Grows k m) where
   -- the next word to be laid
   pub next_laid : (ws rest vs : List Word) (w : Word) (i : ℕ) → Lays k ws i m rest → rest ≡ vs ++ w ∷ [] → (drop i (reverse ws) ≡ w ∷ reverse vs) × All (IsWord k) vs × HasTree m w (word_tree k w) × IsWord k w
   next_laid ws rest vs w i h e =
-      let all = All-pop (IsWord k) rest vs (Some w) e h.rest_words in
-      (sym h.left ∙ ap reverse e ∙ reverse-push vs w,
-       all.0, record { is_word = IsShape-grows k m g (shape_of w) all.1; tree_is = shape_tree-grows k m g (shape_of w) all.1 }, all.1)
+      let all = All-pop (IsWord k) rest vs (Some w) e h.rest_words in (
+        sym h.left ∙ ap reverse e ∙ reverse-push vs w,
+        all.0,
+        record { is_word = IsShape-grows k m g (shape_of w) all.1; tree_is = shape_tree-grows k m g (shape_of w) all.1 },
+        all.1,
+      )
 
 -- one word more is laid
 pub laid_more : (k m n : Known) (ws rest vs : List Word) (w : Word) (i : ℕ) → Lays k ws i m rest → drop i (reverse ws) ≡ w ∷ reverse vs → All (IsWord k) vs → n.trees ≡ m.trees ++ word_tree k w ∷ [] → Lays k ws (i + 1) n vs
@@ -84,9 +87,10 @@ module _ (k m : Known) (g : Grows k m) where
   laid_block : (ws rest : List Word) (count : ℕ) → Lays k ws count m rest → count ≤ length ws → (length k.trees + count ≤ length m.trees) × (block m (length k.trees) count ≡ take count (trees_on k ws))
   laid_block ws rest count h l =
       let T = trees_on k ws in
-      let size : length (take count T) ≡ count = length-take-le count T (omega (arith, length-map (reverse ws) (word_tree k), length-reverse ws)) in
-      (omega (arith, ap length h.trees, length-append k.trees (take count T), size),
-       ap (λ ts. take count (drop (length k.trees) ts)) h.trees ∙ ap (take count) (drop_at k.trees (take count T) (length k.trees) refl) ∙ take_all count (take count T) (omega arith))
+      let size : length (take count T) ≡ count = length-take-le count T (omega (arith, length-map (reverse ws) (word_tree k), length-reverse ws)) in (
+        omega (arith, ap length h.trees, length-append k.trees (take count T), size),
+        ap (λ ts. take count (drop (length k.trees) ts)) h.trees ∙ ap (take count) (drop_at k.trees (take count T) (length k.trees) refl) ∙ take_all count (take count T) (omega arith),
+      )
 
   pub gathered_word : (ws rest : List Word) (name count first : ℕ) (closed : Bool) (w : Word) → Lays k ws count m rest → count ≤ length ws → 1 ≤ count → count ≤ 1024 → name < length k.names → first ≡ length k.trees → shape_of w ≡ Comp name count first closed → (closed ≡ true → flat_map occurrences (take count (trees_on k ws)) ≡ []) → HasTree m w (compound (name_at k name) (trees_of (take count (trees_on k ws))))
   gathered_word ws rest name count first closed w h l some few named at s c =
@@ -115,7 +119,7 @@ module _ (k m : Known) (g : Grows k m) where
       trees_on-push m rest w
       ∙ (λ i. t i ∷ map (word_tree m) (reverse rest))
       ∙ ap (λ ts. compound name (trees_of (take count (trees_on k ws))) ∷ ts)
-        (map-grows k m g (reverse rest) (All-reverse (IsWord k) rest w h.rest_words) ∙ ap (map (word_tree k)) h.left ∙ sym (drop-map (word_tree k) count (reverse ws)))
+      (map-grows k m g (reverse rest) (All-reverse (IsWord k) rest w h.rest_words) ∙ ap (map (word_tree k)) h.left ∙ sym (drop-map (word_tree k) count (reverse ws)))
 
 pub trees_on-grows : (k m : Known) → Grows k m → (ws : List Word) (d : Word) → All (IsWord k) ws → trees_on m ws ≡ trees_on k ws
 trees_on-grows k m g ws d h = map-grows k m g (reverse ws) (All-reverse (IsWord k) ws d h)

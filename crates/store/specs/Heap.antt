@@ -59,6 +59,11 @@ pub record HasTree (k : Known) (w : Word) (t : Tree) : Type 0 where
 abbrev pub tree_at : Known → ℕ → Tree
 tree_at k p = slice_index_or k.trees p (atom [])
 
+-- the tree stands at this place
+pub record StandsAt (k : Known) (t : Tree) (p : ℕ) : Type 0 where
+  pub within : p < length k.trees
+  pub tree_is : tree_at k p ≡ t
+
 -- the trees of words, the last word's first
 abbrev pub trees_on : Known → List Word → List Tree
 trees_on k ws = map (word_tree k) (reverse ws)

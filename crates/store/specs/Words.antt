@@ -22,3 +22,11 @@ is_closed_shape (Int z) = true
 is_closed_shape (Large i) = true
 is_closed_shape (Atom i) = true
 is_closed_shape (Comp name count first closed) = closed
+
+-- where a compound's arguments stand
+abbrev pub first_of_shape : Shape → ℕ
+first_of_shape (Var n) = 0
+first_of_shape (Int z) = 0
+first_of_shape (Large i) = 0
+first_of_shape (Atom i) = 0
+first_of_shape (Comp name count first closed) = first

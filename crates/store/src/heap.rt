@@ -1,5 +1,5 @@
 // Words that stand for trees, each over the words before it.
-ghost use Rattle.std.specs.Prelude.{◌≡◌, ◌+◌, IfOk};
+ghost use Rattle.std.specs.Prelude.{◌≡◌, ◌+◌, ◌<◌, IfOk, OnOk};
 ghost use Rattle.store.specs.Words.{shape_of};
 
 use crate::cell::Cell;
@@ -26,7 +26,7 @@ pub(crate) struct Heap {
 impl Heap {
     ghost use Rattle.std.specs.Prelude.{◌≡◌, ◌<◌, ◌≤◌, ◌^◌, ◌+◌, ◌++◌, ◌∷◌, [], true, IfOk, OnOk, OnErr, IfSome, length, slice_index_or, take, map};
     ghost use Rattle.std.specs.List.{All, flat_map};
-    ghost use Rattle.store.specs.Heap.{IsHeap, GrownFrom, known_of, HasTree, IsWord, word_tree, tree_at, block, name_at, trees_on, gathered, Lays};
+    ghost use Rattle.store.specs.Heap.{IsHeap, GrownFrom, known_of, HasTree, IsWord, word_tree, tree_at, block, name_at, trees_on, gathered, Lays, StandsAt};
     ghost use Rattle.term_core.specs.Tree.{integer, atom, compound, trees_of};
     ghost use Rattle.term_core.specs.Parts.{symbol_of, arguments_of};
     ghost use Rattle.store.specs.Seen.{seen_node, HasNodes};
@@ -51,7 +51,7 @@ impl Heap {
     fn name(&mut self, alloc: Global, name: &str) -> Result<u64, Memory>
         requires { IsHeap self.old }
         ensures grown { GrownFrom (known_of self.old) self.new }
-        ensures words { self.new.words ≡ self.old.words }
+        ensures trees { (known_of self.new).trees ≡ (known_of self.old).trees }
         ensures room { IfOk result (λ at. at < MAX_NAMES) }
         ensures within { IfOk result (λ at. at < length (known_of self.new).names) }
         ensures name { IfOk result (λ at. name_at (known_of self.new) at ≡ name.now) }
@@ -88,7 +88,7 @@ impl Heap {
     pub(crate) fn integer(&mut self, value: i128) -> Result<Word, Memory>
         requires { IsHeap self.old }
         ensures grown { GrownFrom (known_of self.old) self.new }
-        ensures words { self.new.words ≡ self.old.words }
+        ensures trees { (known_of self.new).trees ≡ (known_of self.old).trees }
         ensures word { IfOk result (λ w. HasTree (known_of self.new) w (integer value)) }
     {
         if -SMALL <= value && value < SMALL {
@@ -106,7 +106,7 @@ impl Heap {
     pub(crate) fn atom(&mut self, alloc: Global, name: &str) -> Result<Word, Memory>
         requires { IsHeap self.old }
         ensures grown { GrownFrom (known_of self.old) self.new }
-        ensures words { self.new.words ≡ self.old.words }
+        ensures trees { (known_of self.new).trees ≡ (known_of self.old).trees }
         ensures word { IfOk result (λ w. HasTree (known_of self.new) w (atom name.now)) }
     {
         let at = self.name(alloc, name)?;
@@ -128,7 +128,7 @@ impl Heap {
             ≡ gathered (name_at (known_of self.old) name) count (trees_on (known_of self.old) pending.old.items)) }
     {
         let first = self.words.len();
-        if first >= MAX_CELLS {
+        if first >= MAX_CELLS - count as usize {
             return Err(Memory);
         }
         let closed = self.lay(pending, count)?;
@@ -235,7 +235,7 @@ impl Heap {
     }
 
     // The word of the first term of these nodes, with `base` added to the numbers of its variables.
-    pub(crate) fn put(&mut self, alloc: Global, nodes: &[Node], base: u64) -> Result<Word, Memory>
+    fn put(&mut self, alloc: Global, nodes: &[Node], base: u64) -> Result<Word, Memory>
         requires heap { IsHeap self.old }
         requires some { 0 < length nodes.now }
         requires terms { AreTermNodes nodes.now }
@@ -250,12 +250,7 @@ impl Heap {
     }
 
     // The word of a compound of these cells' trees.
-    pub(crate) fn compound(
-        &mut self,
-        alloc: Global,
-        name: &str,
-        args: &[Cell],
-    ) -> Result<Word, Memory>
+    fn compound(&mut self, alloc: Global, name: &str, args: &[Cell]) -> Result<Word, Memory>
         requires heap { IsHeap self.old }
         requires some { 1 ≤ length args.now }
         requires few { length args.now ≤ 1024 }
@@ -268,6 +263,42 @@ impl Heap {
         let mut pending = self.words_of(alloc, args)?;
         self.gather(&mut pending, name, args.len() as u32)?;
         Ok(pending.pop().unwrap())
+    }
+
+    // Puts a term and tells its place.
+    pub(crate) fn put_placed(
+        &mut self,
+        alloc: Global,
+        nodes: &[Node],
+        base: u64,
+    ) -> Result<u32, Memory>
+        requires heap { IsHeap self.old }
+        requires some { 0 < length nodes.now }
+        requires terms { AreTermNodes nodes.now }
+        ensures grown { GrownFrom (known_of self.old) self.new }
+        ensures place { IfOk result (StandsAt (known_of self.new) (renamed base (parse nodes.now))) }
+    {
+        let word = self.put(alloc, nodes, base)?;
+        self.place(word)
+    }
+
+    // Puts a compound of these cells' trees and tells its place.
+    pub(crate) fn compound_placed(
+        &mut self,
+        alloc: Global,
+        name: &str,
+        args: &[Cell],
+    ) -> Result<u32, Memory>
+        requires heap { IsHeap self.old }
+        requires some { 1 ≤ length args.now }
+        requires few { length args.now ≤ 1024 }
+        requires cells { All (λ c. c < length (known_of self.old).trees) args.now }
+        ensures grown { GrownFrom (known_of self.old) self.new }
+        ensures place { IfOk result (StandsAt (known_of self.new)
+            (compound name.now (trees_of (map (tree_at (known_of self.old)) args.now)))) }
+    {
+        let word = self.compound(alloc, name, args)?;
+        self.place(word)
     }
 
     // The words of these cells, the last one first.
@@ -312,7 +343,6 @@ impl Heap {
     pub(crate) fn argument(&self, word: Word, i: u32) -> u32
         requires word { IsWord (known_of self.now) word }
         requires within { i < length (arguments_of (word_tree (known_of self.now) word)) }
-        requires cells { length (known_of self.now).trees < 2 ^ 32 }
         ensures place { result < length (known_of self.now).trees }
         ensures tree { tree_at (known_of self.now) result
             ≡ slice_index_or (arguments_of (word_tree (known_of self.now) word)) i (atom []) }
@@ -382,7 +412,8 @@ impl Heap {
 
 // The word of a variable.
 pub(crate) fn variable(number: u64, base: u64) -> Result<Word, Memory>
-    ensures { IfOk result (λ w. shape_of w ≡ Shape.Var (number + base)) }
+    ensures word { IfOk result (λ w. shape_of w ≡ Shape.Var (number + base)) }
+    ensures few { OnOk result (number + base < MAX_VARIABLES) }
 {
     let number = number.checked_add(base).ok_or(Memory)?;
     if number >= MAX_VARIABLES {

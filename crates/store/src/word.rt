@@ -1,6 +1,6 @@
 // A term's outermost symbol in 64 bits, with the place of its arguments.
 ghost use Rattle.std.specs.Prelude.{◌≡◌, ◌<◌, ◌≤◌, ◌^◌, ◌+◌, pos, ◌≤ℤ◌, ◌<ℤ◌, neg_ℤ};
-ghost use Rattle.store.specs.Words.{shape_of, is_closed_shape};
+ghost use Rattle.store.specs.Words.{shape_of, is_closed_shape, first_of_shape};
 
 /// The greatest number of words, and so of cells.
 pub const MAX_CELLS: usize = 1 << 28;
@@ -80,11 +80,7 @@ impl Word {
         ensures { shape_of result ≡ Shape.Comp name count first closed }
     {
         let count = u64::from(count - 1);
-        let bits = 3
-            + 4 * u64::from(closed)
-            + 8 * count
-            + 8192 * name
-            + 68719476736 * first;
+        let bits = 3 + 4 * u64::from(closed) + 8 * count + 8192 * name + 68719476736 * first;
         Word { bits }
     }
 
@@ -101,7 +97,8 @@ impl Word {
 
     /// What the word says.
     pub(crate) fn shape(self) -> Shape
-        ensures { result ≡ shape_of self }
+        ensures shape { result ≡ shape_of self }
+        ensures place { first_of_shape result < 2 ^ 28 }
     {
         let kind = self.bits % 4;
         let rest = self.bits / 4;

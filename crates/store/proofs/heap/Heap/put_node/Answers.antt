@@ -20,8 +20,8 @@ returns-in_ok-word-in-Int-clause-trees c =
     let fits : SFits w128 z = search rules in
     on_ok_weaker _
     (λ e. leaf_on k (known_of c.integer.new.self) in_ok.grown.grows c.args.pending.now.items c.put_leaf-in-Int.new.pending.items w (integer (to_z w128 (of_z w128 z))) c.requires.pending in_ok.word e
-          ∙ ap (λ (y : ℤ). integer y ∷ trees_on k c.args.pending.now.items) (to_z-of_z w128 z fits)
-          ∙ ap (λ n. grow (map_node (λ m. m + c.args.base) n) (trees_on k c.args.pending.now.items)) (sym c.in-Int.is))
+    ∙ ap (λ (y : ℤ). integer y ∷ trees_on k c.args.pending.now.items) (to_z-of_z w128 z fits)
+    ∙ ap (λ n. grow (map_node (λ m. m + c.args.base) n) (trees_on k c.args.pending.now.items)) (sym c.in-Int.is))
     c.put_leaf-in-Int.ensures.trees
 
 pub returns-in_ok-word-in-Atom-clause-trees : goal.returns-in_ok-word-in-Atom-clause-trees
@@ -31,8 +31,8 @@ returns-in_ok-word-in-Atom-clause-trees c =
     let in_ok = c.in_ok-word-in-Atom.ensures in
     on_ok_weaker _
     (λ e. leaf_on k (known_of c.atom.new.self) in_ok.grown.grows c.args.pending.now.items c.put_leaf-in-Atom.new.pending.items w (atom c.as_str.result.now) c.requires.pending in_ok.word e
-          ∙ ap (λ f. atom f ∷ trees_on k c.args.pending.now.items) c.as_str.ensures
-          ∙ ap (λ n. grow (map_node (λ m. m + c.args.base) n) (trees_on k c.args.pending.now.items)) (sym c.in-Atom.is))
+    ∙ ap (λ f. atom f ∷ trees_on k c.args.pending.now.items) c.as_str.ensures
+    ∙ ap (λ n. grow (map_node (λ m. m + c.args.base) n) (trees_on k c.args.pending.now.items)) (sym c.in-Atom.is))
     c.put_leaf-in-Atom.ensures.trees
 
 pub returns-in_ok-at-in-Comp-clause-trees : goal.returns-in_ok-at-in-Comp-clause-trees
@@ -43,5 +43,5 @@ returns-in_ok-at-in-Comp-clause-trees c =
     let ws = c.args.pending.now.items in
     on_ok_weaker {P = trees_on (known_of c.gather.new.self) c.gather.new.pending.items ≡ gathered (name_at m c.in_ok-at-in-Comp.at) c.in-Comp.count (trees_on m ws)} {Q = trees_on (known_of c.gather.new.self) c.gather.new.pending.items ≡ grow (map_node (λ n. n + c.args.base) c.args.node.now) (trees_on k ws)} c.gather.result
     (λ e. compound_on k m (known_of c.gather.new.self) named.grown.grows ws c.gather.new.pending.items (name_at m c.in_ok-at-in-Comp.at) c.in-Comp.name c.in-Comp.count c.requires.pending (named.name ∙ c.as_str-in-Comp.ensures) e
-          ∙ ap (λ n. grow (map_node (λ m. m + c.args.base) n) (trees_on k ws)) (sym c.in-Comp.is))
+    ∙ ap (λ n. grow (map_node (λ m. m + c.args.base) n) (trees_on k ws)) (sym c.in-Comp.is))
     c.gather.ensures.trees
