@@ -14,3 +14,6 @@ pub use cell::Cell;
 pub use cells::Store;
 pub use seen::{Offer, Seen, Taken};
 pub use word::MAX_CELLS;
+
+#[cfg(test)]
+mod tests;
