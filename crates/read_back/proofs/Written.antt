@@ -152,8 +152,8 @@ no_other found text t h = record {
   names = h.names;
   reads = h.reads;
   only = λ u others r.
-    let same : r.all ≡ h.reads.all = same_tokens (tokens_of text) h.reads.all r.all h.reads.tokens r.tokens in
-    one_term found text (before_end h.reads.all) t u h.names others h.reads.term (subst (λ ts. IsTermOf iso text (before_end ts) u others) same r.term);
+      let same : r.all ≡ h.reads.all = same_tokens (tokens_of text) h.reads.all r.all h.reads.tokens r.tokens in
+      one_term found text (before_end h.reads.all) t u h.names others h.reads.term (subst (λ ts. IsTermOf iso text (before_end ts) u others) same r.term);
 }
 
 -- ---- the text of a term
