@@ -14,7 +14,7 @@ use Rattle.prolog_write.specs.Text.{is_word, is_symbol, is_bare, is_word_atom, i
 use Rattle.prolog_read.specs.Variables.{Numbering}
 use Rattle.prolog_grammar.specs.declared.grammar.lexeme.Lexeme.TheVariants.{Name}
 use Rattle.prolog_write.specs.declared.mode.Mode.TheVariants.{Quoted}
-use Rattle.read_back.specs.Spelled.{Item, name_item, prefix_item, infix_item, piece_of, word, is_brackets, is_close_square, is_close_curly, open_behind}
+use Rattle.read_back.proofs.Spelled.{Item, name_item, prefix_item, infix_item, piece_of, word, is_brackets, is_close_square, is_close_curly, open_behind}
 use Rattle.read_back.proofs.Ascii.{ascii_first, ascii_encodes, ascii_scalars, scalars_append, last_all}
 use Rattle.read_back.proofs.Classes.{word_below, symbol_below}
 use Rattle.read_back.proofs.Fronts.{IsToken, is_any, ends_word, ends_symbols, ends_quote, all_too, word_token, symbols_token}

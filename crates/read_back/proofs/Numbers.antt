@@ -15,8 +15,8 @@ use Rattle.prolog_read.specs.Variables.{Numbering, number_of, with_variable}
 use Rattle.prolog_read.specs.Reads.{is_end}
 use Rattle.prolog_read.specs.Lexemes.{is_pair, variables_behind}
 use Rattle.prolog_read.specs.Lexemes as reader
-use Rattle.read_back.specs.Spelled.{Item, variable_item, integer_item, mark_item, Mark, mark_text, mark_lexeme, is_opening, is_close_square, is_close_curly, open_behind}
-use Rattle.read_back.specs.Spelled as item
+use Rattle.read_back.proofs.Spelled.{Item, variable_item, integer_item, mark_item, Mark, mark_text, mark_lexeme, is_opening, is_close_square, is_close_curly, open_behind}
+use Rattle.read_back.proofs.Spelled as item
 use Rattle.read_back.specs.Sound.{IsSized}
 use Rattle.read_back.proofs.Ascii.{last_behind, Digits, digits_of, ascii_encodes, ascii_scalars, scalars_append, last_all}
 use Rattle.read_back.proofs.Classes.{digit_below, symbol_is}

@@ -28,9 +28,9 @@ use Rattle.prolog_read.specs.Reads.{prefix_of, infix_of, before_end, from_end, i
 use Rattle.prolog_read.specs.Clauses.{iso}
 use Rattle.read_back.specs.Laws.{quotes_names, IsReadAs, WhatIsWrittenIsReadAgain}
 use Rattle.read_back.specs.Sound.{IsSound}
-use Rattle.read_back.specs.Spelled.{Item, piece_of, FollowedBy, AreApart, brackets}
-use Rattle.read_back.specs.Spelled as item
-use Rattle.read_back.specs.Layout.{layout, items}
+use Rattle.read_back.proofs.Spelled.{Item, piece_of, FollowedBy, AreApart, brackets}
+use Rattle.read_back.proofs.Spelled as item
+use Rattle.read_back.proofs.TermLayout.{layout, items}
 use Rattle.read_back.proofs.Apart.{AreApart-items}
 use Rattle.read_back.proofs.Grammar.{AreRead, are_read, key}
 use Rattle.read_back.proofs.Keys.{zipped, threaded, threaded_by_keys, keys, lexemes-zipped, brackets-zipped}
