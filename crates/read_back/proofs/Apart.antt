@@ -12,8 +12,8 @@ use Rattle.prolog_write.specs.declared.form.Form.{Form}
 use Rattle.prolog_write.specs.declared.form.Form.TheVariants.{Curly, Cell, Prefix, Infix, Call}
 use Rattle.prolog_write.specs.Text.{form, is_operand, is_operator, most}
 use Rattle.read_back.specs.Sound.{IsSized, HasValues, HaveValues}
-use Rattle.read_back.specs.Spelled.{Mark, is_opening, Item, variable_item, integer_item, name_item, mark_item, prefix_item, infix_item, open_round, close_round, open_square, close_square, open_curly, close_curly, comma, bar, goes_on, is_close_square, is_close_curly, FollowedBy, AreApart}
-use Rattle.read_back.specs.Layout.{Layout, unknown, number, plain, call, round, curly, listed, partial, before, between, Layouts, one, and, in_brackets, with_element, layout, by_form, arguments, items, all_items}
+use Rattle.read_back.proofs.Spelled.{Mark, is_opening, Item, variable_item, integer_item, name_item, mark_item, prefix_item, infix_item, open_round, close_round, open_square, close_square, open_curly, close_curly, comma, bar, goes_on, is_close_square, is_close_curly, FollowedBy, AreApart}
+use Rattle.read_back.proofs.TermLayout.{Layout, unknown, number, plain, call, round, curly, listed, partial, before, between, Layouts, one, and, in_brackets, with_element, layout, by_form, arguments, items, all_items}
 use Rattle.read_back.proofs.Forms.{IsForm, IsForm-form}
 
 -- ---- layouts of text and of operators

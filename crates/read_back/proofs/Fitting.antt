@@ -16,8 +16,8 @@ use Rattle.prolog_write.specs.declared.place.Place.TheVariants.{Whole, Argument,
 use Rattle.prolog_write.specs.declared.form.Form.{Form}
 use Rattle.prolog_write.specs.declared.form.Form.TheVariants.{Curly, Cell, Prefix, Infix, Call}
 use Rattle.prolog_write.specs.Text.{form, is_operand, is_operator, most}
-use Rattle.read_back.specs.Spelled.{word, infix_lexeme, is_tight, infix_item}
-use Rattle.read_back.specs.Layout.{Layout, unknown, number, plain, call, round, curly, listed, partial, before, between, Layouts, one, and, in_brackets, with_element, layout, by_form, arguments, read_as, all_read_as}
+use Rattle.read_back.proofs.Spelled.{word, infix_lexeme, is_tight, infix_item}
+use Rattle.read_back.proofs.TermLayout.{Layout, unknown, number, plain, call, round, curly, listed, partial, before, between, Layouts, one, and, in_brackets, with_element, layout, by_form, arguments, read_as, all_read_as}
 use Rattle.read_back.proofs.Ops.{IsOperator, apart, before_row, between_row, prefix_small, infix_small, row-infix_lexeme}
 use Rattle.read_back.proofs.Forms.{IsForm, IsForm-form}
 

@@ -12,8 +12,8 @@ use Rattle.prolog_write.specs.declared.mode.Mode.{Mode}
 use Rattle.prolog_write.specs.declared.place.Place.{Place}
 use Rattle.prolog_write.specs.Text.{most}
 use Rattle.read_back.specs.Sound.{IsSound}
-use Rattle.read_back.specs.Spelled.{Item, lexemes, item_variables, brackets}
-use Rattle.read_back.specs.Layout.{layout, items, read_as}
+use Rattle.read_back.proofs.Spelled.{Item, lexemes, item_variables, brackets}
+use Rattle.read_back.proofs.TermLayout.{layout, items, read_as}
 use Rattle.read_back.proofs.Ops.{before_row, between_row}
 use Rattle.read_back.proofs.Fitting.{right}
 use Rattle.read_back.proofs.Limits.{ranged, within}

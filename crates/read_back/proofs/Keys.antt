@@ -11,7 +11,7 @@ use Rattle.term_core.specs.Variables.{with_new, distinct_after, place_of}
 use Rattle.prolog_grammar.specs.declared.grammar.lexeme.Lexeme.{Lexeme}
 use Rattle.prolog_read.specs.Variables.{Names, Numbering, start, lookup, number_of, with_variable}
 use Rattle.prolog_grammar.specs.declared.grammar.lexeme.Lexeme.TheVariants.{Name, Integer, Variable}
-use Rattle.read_back.specs.Spelled.{Item, variable_item, integer_item, name_item, mark_item, prefix_item, infix_item, word, mark_lexeme, infix_lexeme, is_brackets, is_opening, AreApart, is_tight, item_lexemes, lexemes, item_variables, item_brackets, brackets, open_behind}
+use Rattle.read_back.proofs.Spelled.{Item, variable_item, integer_item, name_item, mark_item, prefix_item, infix_item, word, mark_lexeme, infix_lexeme, is_brackets, is_opening, AreApart, is_tight, item_lexemes, lexemes, item_variables, item_brackets, brackets, open_behind}
 
 abbrev pub variable_name : ℕ → List ℕ
 variable_name n = 95 ∷ decimal n

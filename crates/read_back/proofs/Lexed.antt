@@ -10,7 +10,7 @@ use Rattle.term_core.specs.Tokens.{Kind, open_list_token, open_curly_token}
 use Rattle.prolog_write.specs.declared.mode.Mode.TheVariants.{Quoted}
 use Rattle.prolog_write.specs.Text.{is_spaced, is_symbol, is_word, first, last, infix_piece, behind}
 use Rattle.prolog_read.specs.Variables.{Numbering, start}
-use Rattle.read_back.specs.Spelled.{Item, variable_item, integer_item, name_item, mark_item, prefix_item, infix_item, Mark, open_round, close_round, open_square, close_square, open_curly, close_curly, comma, bar, piece_of, is_tight, IsItem, FollowedBy, AreApart, may_follow, goes_on, open_behind}
+use Rattle.read_back.proofs.Spelled.{Item, variable_item, integer_item, name_item, mark_item, prefix_item, infix_item, Mark, open_round, close_round, open_square, close_square, open_curly, close_curly, comma, bar, piece_of, is_tight, IsItem, FollowedBy, AreApart, may_follow, goes_on, open_behind}
 use Rattle.read_back.proofs.Ascii.{ascii_first, Digits, digits_of}
 use Rattle.read_back.proofs.Segments.{Segment, space, text_of, AreRead}
 use Rattle.read_back.proofs.Seen.{seen, closes, read_seen}

@@ -19,7 +19,9 @@ mod Pieces
 mod Quotes
 mod Seen
 mod Segments
+mod Spelled
 mod Spelt
+mod TermLayout
 mod Terms
 mod Written
 mod Yields

@@ -11,8 +11,8 @@ use Rattle.prolog_write.specs.declared.place.Place.TheVariants.{Whole, Argument,
 use Rattle.prolog_write.specs.declared.form.Form.{Form}
 use Rattle.prolog_write.specs.declared.form.Form.TheVariants.{Curly, Cell, Prefix, Infix, Call}
 use Rattle.prolog_write.specs.Text.{form, is_operand, is_operator, most}
-use Rattle.read_back.specs.Spelled.{is_tight, infix_item}
-use Rattle.read_back.specs.Layout.{Layout, number, plain, listed, partial, before, between, one, in_brackets, with_element, layout, by_form, arguments, read_as, all_read_as}
+use Rattle.read_back.proofs.Spelled.{is_tight, infix_item}
+use Rattle.read_back.proofs.TermLayout.{Layout, number, plain, listed, partial, before, between, one, in_brackets, with_element, layout, by_form, arguments, read_as, all_read_as}
 use Rattle.read_back.proofs.Ops.{same_name}
 use Rattle.read_back.proofs.Forms.{IsForm, IsForm-form}
 

@@ -14,7 +14,7 @@ use Rattle.prolog_write.specs.Text.{is_word, is_symbol, is_bare, is_word_atom, i
 use Rattle.prolog_read.specs.Variables.{Numbering}
 use Rattle.prolog_grammar.specs.declared.grammar.lexeme.Lexeme.TheVariants.{Name}
 use Rattle.prolog_write.specs.declared.mode.Mode.TheVariants.{Quoted}
-use Rattle.read_back.specs.Spelled.{Item, name_item, prefix_item, infix_item, piece_of, word, is_brackets, is_close_square, is_close_curly, open_behind}
+use Rattle.read_back.proofs.Spelled.{Item, name_item, prefix_item, infix_item, piece_of, word, is_brackets, is_close_square, is_close_curly, open_behind}
 use Rattle.read_back.proofs.Ascii.{ascii_first, ascii_encodes, ascii_scalars, scalars_append, last_all}
 use Rattle.read_back.proofs.Classes.{word_below, symbol_below}
 use Rattle.read_back.proofs.Fronts.{IsToken, is_any, ends_word, ends_symbols, ends_quote, all_too, word_token, symbols_token}
@@ -315,21 +315,28 @@ infix_word c w h = record {
   where
     f : List ℕ
     f = c ∷ w
+
     p : (is_ascii_lowercase c ≡ true) × (list_all is_word f ≡ true)
     p = and_parts (is_ascii_lowercase c) (list_all is_word f) h
+
     name : IsToken name_token f ends_word
     name = word_token c w p.0 (and_parts (is_word c) (list_all is_word w) p.1).1
+
     ascii : list_all is_ascii f ≡ true
     ascii = words_ascii f p.1
+
     text : 32 ∷ (f ++ 32 ∷ []) ≡ item_text (infix_item f)
     text = rw (p.0) refl
+
     no_comma : bytes_eq f (codes ",") ≡ false
     no_comma = differ is_word_atom f (codes ",") h refl
+
     bytes : (ss : List Segment) → encode_utf8_all (32 ∷ (f ++ 32 ∷ text_of ss)) ≡ item_text (infix_item f) ++ encode_utf8_all (text_of ss)
     bytes ss =
         ascii_first 32 (f ++ 32 ∷ text_of ss) (omega arith)
         ∙ ap (λ bs. 32 ∷ bs) (encodes-append f (32 ∷ text_of ss) ∙ ap (λ bs. bs ++ encode_utf8_all (32 ∷ text_of ss)) (ascii_encodes f ascii) ∙ ap (λ bs. f ++ bs) (ascii_first 32 (text_of ss) (omega arith)) ∙ sym (append_assoc f (32 ∷ []) (encode_utf8_all (text_of ss))))
         ∙ ap (λ t. t ++ encode_utf8_all (text_of ss)) text
+
     read : (d : Bool) (n : ℕ) (s : Numbering) (ss : List Segment) → closes name_token (seen false ss) ≡ false →
         read_seen false n s (record { kind = name_token; value = spec.value name_token f; direct = false } ∷ seen false ss) ≡
         item_counted n s d (infix_item f) ++ read_seen false n s (seen (leaves (infix_item f)) ss)

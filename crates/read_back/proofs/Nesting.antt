@@ -11,8 +11,8 @@ use Rattle.prolog_write.specs.declared.place.Place.TheVariants.{Whole, Argument,
 use Rattle.prolog_write.specs.declared.form.Form.{Form}
 use Rattle.prolog_write.specs.declared.form.Form.TheVariants.{Curly, Cell, Prefix, Infix, Call}
 use Rattle.prolog_write.specs.Text.{form, is_operand, is_operator, most}
-use Rattle.read_back.specs.Spelled.{Item, mark_item, infix_item, close_round, close_square, close_curly, comma, bar, is_brackets, brackets}
-use Rattle.read_back.specs.Layout.{Layout, unknown, number, plain, call, round, curly, listed, partial, before, between, Layouts, one, and, in_brackets, with_element, layout, by_form, arguments, items, all_items}
+use Rattle.read_back.proofs.Spelled.{Item, mark_item, infix_item, close_round, close_square, close_curly, comma, bar, is_brackets, brackets}
+use Rattle.read_back.proofs.TermLayout.{Layout, unknown, number, plain, call, round, curly, listed, partial, before, between, Layouts, one, and, in_brackets, with_element, layout, by_form, arguments, items, all_items}
 use Rattle.read_back.proofs.Forms.{IsForm, IsForm-form, NoCell}
 
 -- ---- of a layout

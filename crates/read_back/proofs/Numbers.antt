@@ -15,8 +15,8 @@ use Rattle.prolog_read.specs.Variables.{Numbering, number_of, with_variable}
 use Rattle.prolog_read.specs.Reads.{is_end}
 use Rattle.prolog_read.specs.Lexemes.{is_pair, variables_behind}
 use Rattle.prolog_read.specs.Lexemes as reader
-use Rattle.read_back.specs.Spelled.{Item, variable_item, integer_item, mark_item, Mark, mark_text, mark_lexeme, is_opening, is_close_square, is_close_curly, open_behind}
-use Rattle.read_back.specs.Spelled as item
+use Rattle.read_back.proofs.Spelled.{Item, variable_item, integer_item, mark_item, Mark, mark_text, mark_lexeme, is_opening, is_close_square, is_close_curly, open_behind}
+use Rattle.read_back.proofs.Spelled as item
 use Rattle.read_back.specs.Sound.{IsSized}
 use Rattle.read_back.proofs.Ascii.{last_behind, Digits, digits_of, ascii_encodes, ascii_scalars, scalars_append, last_all}
 use Rattle.read_back.proofs.Classes.{digit_below, symbol_is}
@@ -122,20 +122,28 @@ negative_of n l h = record {
   where
     cs : List ℕ
     cs = h.head ∷ h.tail
+
     ascii : list_all is_ascii cs ≡ true
     ascii = all_too is_ascii_digit is_ascii digit_ascii cs h.digits
+
     value : spec.integer cs ≡ suc n
     value = integer_value h.head h.tail (and_parts (is_ascii_digit h.head) (list_all is_ascii_digit h.tail) h.digits).1 ∙ h.value
+
     small : spec.value_in 10 cs ≤ 2 ^ 127
     small = let v = h.value in omega (arith, v, l)
+
     digits : IsToken integer_token cs ends_number
     digits = number_token h.head h.tail h.digits small
+
     bytes : (ss : List Segment) → encode_utf8_all (45 ∷ (cs ++ text_of ss)) ≡ (45 ∷ decimal (suc n)) ++ encode_utf8_all (text_of ss)
     bytes ss = encodes-append (45 ∷ cs) (text_of ss) ∙ ap (λ bs. bs ++ encode_utf8_all (text_of ss)) (ascii_encodes (45 ∷ cs) ascii ∙ ap (λ ds. 45 ∷ ds) (sym h.are))
+
     last_word : is_word (last (45 ∷ decimal (suc n))) ≡ true
     last_word = rw (h.are) (ap is_word (last_behind 45 h.head h.tail) ∙ last_all is_word h.head h.tail (all_too is_ascii_digit is_word digit_word cs h.digits))
+
     may : (d : ℕ) → Next (integer_item (negsuc n)) d → ends_number d ≡ true
     may d m = after_number (last (45 ∷ decimal (suc n))) d m.apart last_word m.small (m.plain refl)
+
     read : (d : Bool) (k : ℕ) (s : Numbering) (ts : List Seen) → closes integer_token ts ≡ false →
         read_seen false k s (record { kind = name_token; value = spec.value name_token (45 ∷ []); direct = d } ∷ record { kind = integer_token; value = spec.value integer_token cs; direct = true } ∷ ts) ≡
         item_counted k s d (integer_item (negsuc n)) ++ read_seen false k s ts

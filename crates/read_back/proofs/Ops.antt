@@ -9,7 +9,7 @@ use Rattle.op_table.specs.declared.op.Op.{Op}
 use Rattle.op_table.specs.Table.{Rows, row, iso_prefix, iso_infix, left_of, right_of}
 use Rattle.prolog_grammar.specs.declared.grammar.lexeme.Lexeme.TheVariants.{Name, Comma}
 use Rattle.prolog_grammar.specs.Readings as g
-use Rattle.read_back.specs.Spelled.{word, infix_lexeme}
+use Rattle.read_back.proofs.Spelled.{word, infix_lexeme}
 
 pub same_name : (f g : List ℕ) → bytes_eq f g ≡ true → f ≡ g
 same_name f g e = (bytes_eq-Decides f g).0 e

@@ -7,8 +7,8 @@ use Rattle.prolog_grammar.specs.Readings.{Reading, Readings, meaning, meanings, 
 use Rattle.prolog_grammar.specs.Readings as g
 use Rattle.prolog_write.specs.declared.mode.Mode.{Mode}
 use Rattle.prolog_write.specs.declared.place.Place.{Place}
-use Rattle.read_back.specs.Spelled.{Item, mark_item, infix_item, close_round, close_square, close_curly, comma, bar, is_tight, item_variables}
-use Rattle.read_back.specs.Layout.{Layout, unknown, number, plain, call, round, curly, listed, partial, before, between, Layouts, one, and, layout, items, all_items, read_as, all_read_as}
+use Rattle.read_back.proofs.Spelled.{Item, mark_item, infix_item, close_round, close_square, close_curly, comma, bar, is_tight, item_variables}
+use Rattle.read_back.proofs.TermLayout.{Layout, unknown, number, plain, call, round, curly, listed, partial, before, between, Layouts, one, and, layout, items, all_items, read_as, all_read_as}
 use Rattle.read_back.proofs.Meaning.{means}
 
 abbrev same : ℕ → ℕ

@@ -11,8 +11,8 @@ use Rattle.prolog_write.specs.declared.form.Form.{Form}
 use Rattle.prolog_write.specs.declared.form.Form.TheVariants.{Curly, Cell, Prefix, Infix, Call}
 use Rattle.prolog_write.specs.Text.{Piece, piece, mark, prefix_piece, infix_piece, atom_text, form, is_operand, is_operator, most, pieces, more_arguments, rest_of_list, rest_by_form, after_bar}
 use Rattle.prolog_write.specs.Text as text
-use Rattle.read_back.specs.Spelled.{Item, name_item, mark_item, infix_item, open_round, close_round, open_square, close_square, open_curly, close_curly, comma, bar, piece_of}
-use Rattle.read_back.specs.Layout.{Layout, plain, call, round, curly, listed, partial, before, between, one, in_brackets, with_element, layout, by_form, arguments, items, all_items}
+use Rattle.read_back.proofs.Spelled.{Item, name_item, mark_item, infix_item, open_round, close_round, open_square, close_square, open_curly, close_curly, comma, bar, piece_of}
+use Rattle.read_back.proofs.TermLayout.{Layout, plain, call, round, curly, listed, partial, before, between, one, in_brackets, with_element, layout, by_form, arguments, items, all_items}
 use Rattle.read_back.proofs.Forms.{IsForm, IsForm-form}
 
 -- what stands behind an element, where the rest of its list is laid out so

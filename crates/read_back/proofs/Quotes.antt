@@ -1,5 +1,5 @@
 -- A name in quotes: its characters are read as they were written.
-use Rattle.std.specs.Prelude.{◌≡◌, refl, ℕ, suc, ◌+◌, ◌*◌, ◌/◌, ◌%◌, ◌<◌, ◌≤◌, Bool, true, false, ◌||◌, ◌==◌, nat_lt, cond, List, [], ◌∷◌, ◌++◌, length, slice_index, codes, None}
+use Rattle.std.specs.Prelude.{◌≡◌, refl, ℕ, suc, ◌+◌, ◌-◌, ◌*◌, ◌/◌, ◌%◌, ◌<◌, ◌≤◌, Bool, true, false, ◌||◌, ◌==◌, nat_lt, cond, List, [], ◌∷◌, ◌++◌, length, slice_index, codes, None}
 use Rattle.std.specs.List.{flat_map}
 use Rattle.std.specs.Char.{is_digit, digit_value}
 use Rattle.std.proofs.Common.{arith, ap, ◌∙◌, append_assoc, length-append}
@@ -40,15 +40,17 @@ hex d l = by (nat_lt d 10) refl
 
 -- ---- a part of a text in quotes
 
-two : (x c : ℕ) (t : Text) → spec.escape (92 ∷ x ∷ t) ≡ character c 2 → parts 39 0 (92 ∷ x ∷ t) ≡ character c 2 ∷ parts 39 0 t
+by_escape : (c n : ℕ) (t : Text) → spec.escape (92 ∷ t) ≡ character c n → parts 39 0 (92 ∷ t) ≡ character c n ∷ parts 39 (n - 1) t
 unfolding parts spec.part
-two x c t e = rw e refl
+by_escape c n t e = rw e refl
 
 longer : (x : ℕ) (t : Text) → (length (92 ∷ x ∷ t) == 1) ≡ false
 longer x t = grind (arith, nat_tests)
 
+-- a backslash and a character that stands for one
 simple : (x c : ℕ) (t : Text) → ((length (92 ∷ x ∷ t) == 1) ≡ false → spec.escape (92 ∷ x ∷ t) ≡ character c 2) → parts 39 0 (92 ∷ x ∷ t) ≡ character c 2 ∷ parts 39 0 t
-simple x c t h = two x c t (h (longer x t))
+unfolding parts
+simple x c t h = by_escape c 2 (x ∷ t) (h (longer x t))
 
 slash : (t : Text) → parts 39 0 (92 ∷ 92 ∷ t) ≡ character 92 2 ∷ parts 39 0 t
 unfolding spec.escape
@@ -70,13 +72,24 @@ plain : (c : ℕ) (t : Text) → (c == 92) ≡ false → (c == 39) ≡ false →
 unfolding parts spec.part
 plain c t e f = rw (e, f) refl
 
+-- a backslash, x, hexadecimal digits and a backslash
+numbered_escape : (t : Text) → spec.escape (92 ∷ 120 ∷ t) ≡ spec.numbered 2 16 (92 ∷ 120 ∷ t)
+unfolding spec.escape
+numbered_escape t = rw (longer 120 t) refl
+
 one_digit : (c h : ℕ) (t : Text) → Hex c h → scalar c ≡ true → parts 39 0 (92 ∷ 120 ∷ h ∷ 92 ∷ t) ≡ character c 4 ∷ parts 39 0 t
-unfolding parts spec.part spec.escape spec.numbered
-one_digit c h t x s = let only : 0 * 16 + c ≡ c = omega arith in rw (longer 120 (h ∷ 92 ∷ t), x.is, x.value, only, s) refl
+unfolding parts spec.numbered
+one_digit c h t x s =
+    let only : 0 * 16 + c ≡ c = omega arith in
+    let numbered : spec.numbered 2 16 (92 ∷ 120 ∷ h ∷ 92 ∷ t) ≡ character c 4 = rw (x.is, x.value, only, s) refl in
+    by_escape c 4 (120 ∷ h ∷ 92 ∷ t) (numbered_escape (h ∷ 92 ∷ t) ∙ numbered)
 
 two_digits : (c a b g h : ℕ) (t : Text) → Hex a g → Hex b h → a * 16 + b ≡ c → scalar c ≡ true → parts 39 0 (92 ∷ 120 ∷ g ∷ h ∷ 92 ∷ t) ≡ character c 5 ∷ parts 39 0 t
-unfolding parts spec.part spec.escape spec.numbered
-two_digits c a b g h t x y e s = let both : (0 * 16 + a) * 16 + b ≡ c = omega (arith, e) in rw (longer 120 (g ∷ h ∷ 92 ∷ t), x.is, y.is, x.value, y.value, both, s) refl
+unfolding parts spec.numbered
+two_digits c a b g h t x y e s =
+    let both : (0 * 16 + a) * 16 + b ≡ c = omega (arith, e) in
+    let numbered : spec.numbered 2 16 (92 ∷ 120 ∷ g ∷ h ∷ 92 ∷ t) ≡ character c 5 = rw (x.is, y.is, x.value, y.value, both, s) refl in
+    by_escape c 5 (120 ∷ g ∷ h ∷ 92 ∷ t) (numbered_escape (g ∷ h ∷ 92 ∷ t) ∙ numbered)
 
 -- ---- a character, as it is written
 

@@ -12,7 +12,7 @@ use Rattle.prolog_read.specs.Variables.{Numbering}
 use Rattle.prolog_read.specs.Reads.{is_end}
 use Rattle.prolog_read.specs.Lexemes.{is_pair, variables_behind}
 use Rattle.prolog_read.specs.Lexemes as reader
-use Rattle.read_back.specs.Spelled.{Item, variable_item, integer_item, name_item, mark_item, infix_item, open_square, open_curly, piece_of, is_close_square, is_close_curly, open_behind}
+use Rattle.read_back.proofs.Spelled.{Item, variable_item, integer_item, name_item, mark_item, infix_item, open_square, open_curly, piece_of, is_close_square, is_close_curly, open_behind}
 use Rattle.read_back.proofs.Ascii.{scalars_append}
 use Rattle.read_back.proofs.Classes.{continues_is, symbol_is}
 use Rattle.read_back.proofs.Fronts.{IsToken, ends_word, ends_number, ends_symbols}

@@ -19,7 +19,6 @@ behind [] ms h = h
 behind (n ∷ ns) ms h = behind ns ms h.1
 
 mutual
-
   values : (t : Tree) → Each (flatten t) → HasValues t
   values (variable n) h = h.0
   values (integer z) h = h.0

@@ -28,9 +28,9 @@ use Rattle.prolog_read.specs.Reads.{prefix_of, infix_of, before_end, from_end, i
 use Rattle.prolog_read.specs.Clauses.{iso}
 use Rattle.read_back.specs.Laws.{quotes_names, IsReadAs, WhatIsWrittenIsReadAgain}
 use Rattle.read_back.specs.Sound.{IsSound}
-use Rattle.read_back.specs.Spelled.{Item, piece_of, FollowedBy, AreApart, brackets}
-use Rattle.read_back.specs.Spelled as item
-use Rattle.read_back.specs.Layout.{layout, items}
+use Rattle.read_back.proofs.Spelled.{Item, piece_of, FollowedBy, AreApart, brackets}
+use Rattle.read_back.proofs.Spelled as item
+use Rattle.read_back.proofs.TermLayout.{layout, items}
 use Rattle.read_back.proofs.Apart.{AreApart-items}
 use Rattle.read_back.proofs.Grammar.{AreRead, are_read, key}
 use Rattle.read_back.proofs.Keys.{zipped, threaded, threaded_by_keys, keys, lexemes-zipped, brackets-zipped}
@@ -152,8 +152,8 @@ no_other found text t h = record {
   names = h.names;
   reads = h.reads;
   only = λ u others r.
-    let same : r.all ≡ h.reads.all = same_tokens (tokens_of text) h.reads.all r.all h.reads.tokens r.tokens in
-    one_term found text (before_end h.reads.all) t u h.names others h.reads.term (subst (λ ts. IsTermOf iso text (before_end ts) u others) same r.term);
+      let same : r.all ≡ h.reads.all = same_tokens (tokens_of text) h.reads.all r.all h.reads.tokens r.tokens in
+      one_term found text (before_end h.reads.all) t u h.names others h.reads.term (subst (λ ts. IsTermOf iso text (before_end ts) u others) same r.term);
 }
 
 -- ---- the text of a term

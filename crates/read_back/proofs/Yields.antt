@@ -3,8 +3,8 @@ use Rattle.std.specs.Prelude.{◌≡◌, refl, ℕ, ℤ, pos, negsuc, Bool, true
 use Rattle.std.proofs.Common.{ap, ◌∙◌}
 use Rattle.prolog_grammar.specs.declared.grammar.lexeme.Lexeme.TheVariants.{Name, Open, OpenList, OpenCurly, Comma, Bar}
 use Rattle.prolog_grammar.specs.Readings.{yield, elements}
-use Rattle.read_back.specs.Spelled.{Item, mark_item, prefix_item, infix_item, close_round, close_square, close_curly, comma, bar, word, infix_lexeme, is_tight, lexemes}
-use Rattle.read_back.specs.Layout.{Layout, unknown, number, plain, call, round, curly, listed, partial, before, between, Layouts, one, and, items, all_items, integer_reading, read_as, all_read_as}
+use Rattle.read_back.proofs.Spelled.{Item, mark_item, prefix_item, infix_item, close_round, close_square, close_curly, comma, bar, word, infix_lexeme, is_tight, lexemes}
+use Rattle.read_back.proofs.TermLayout.{Layout, unknown, number, plain, call, round, curly, listed, partial, before, between, Layouts, one, and, items, all_items, integer_reading, read_as, all_read_as}
 
 -- the key of each variable
 module _ (key : ℕ → ℕ) where

@@ -1,4 +1,2 @@
 pub mod Laws
-pub mod Layout
 pub mod Sound
-pub mod Spelled

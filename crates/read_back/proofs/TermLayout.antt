@@ -11,7 +11,7 @@ use Rattle.prolog_write.specs.declared.form.Form.TheVariants.{Curly, Cell, Prefi
 use Rattle.prolog_write.specs.Text.{form, is_operand, is_operator, most}
 use Rattle.prolog_grammar.specs.Readings.{Reading, Readings}
 use Rattle.prolog_grammar.specs.Readings as reading
-use Rattle.read_back.specs.Spelled.{Item, variable_item, integer_item, name_item, mark_item, prefix_item, infix_item, open_round, close_round, open_square, close_square, open_curly, close_curly, comma, bar, word, infix_lexeme, is_tight}
+use Rattle.read_back.proofs.Spelled.{Item, variable_item, integer_item, name_item, mark_item, prefix_item, infix_item, open_round, close_round, open_square, close_square, open_curly, close_curly, comma, bar, word, infix_lexeme, is_tight}
 
 mutual
   pub data Layout : Type 0 where
