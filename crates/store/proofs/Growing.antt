@@ -1,15 +1,15 @@
 -- A heap that grows: what was known stays so.
-use Rattle.std.proofs.Common.{◌≡◌, ℕ, zero, suc, ◌+◌, ◌-◌, ◌<◌, ◌≤◌, Bool, true, false, ℤ, pos, List, [], ◌∷◌, ◌++◌, length, get_or, take, drop, map, reverse, refl, ap, ◌∙◌, sym, subst, append_assoc, append-nil, length-append, arith}
+use Rattle.std.proofs.Common.{◌≡◌, ℕ, zero, suc, ◌+◌, ◌<◌, ◌≤◌, ℤ, pos, List, [], ◌∷◌, ◌++◌, length, get_or, take, drop, refl, ap, ◌∙◌, sym, subst, append_assoc, append-nil, length-append, arith}
 use Rattle.std.proofs.lemmas.List.{get_or_append_left, take-append-le, drop-append-le, length-drop, get_or-append-add, take_all}
 use Rattle.std.specs.List.{flat_map, All}
-use Rattle.std.proofs.lemmas.List.Elements.{All-push, All-weaker}
+use Rattle.std.proofs.lemmas.List.Elements.{All-weaker}
 use Rattle.term_core.specs.Tree.{Tree, compound, integer, atom, trees_of}
 use Rattle.term_core.specs.Variables.{occurrences}
 use Rattle.store.specs.declared.word.Word.{Word}
 use Rattle.store.specs.declared.word.Shape.{Shape}
 use Rattle.store.specs.declared.word.Shape.TheVariants.{Var, Int, Large, Atom, Comp}
 use Rattle.store.specs.Words.{shape_of}
-use Rattle.store.specs.Heap.{Known, name_at, block, shape_tree, IsCompound, IsShape, word_tree, IsWord, HasTree, trees_on, with_trees, spell, AreWords, Begins, Grows}
+use Rattle.store.specs.Heap.{Known, name_at, block, shape_tree, IsShape, word_tree, IsWord, HasTree, with_trees, spell, AreWords, Begins, Grows}
 
 -- ---- first parts
 

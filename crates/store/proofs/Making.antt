@@ -1,7 +1,7 @@
 -- New cells, and those before them.
-use Rattle.std.proofs.Common.{◌≡◌, ℕ, ◌+◌, ◌<◌, ◌≤◌, List, [], ◌∷◌, length, get_or, refl, ap, ◌∙◌, sym, subst, arith}
+use Rattle.std.proofs.Common.{◌≡◌, ℕ, ◌+◌, ◌<◌, ◌≤◌, List, [], length, get_or, refl, ap, ◌∙◌, sym, subst, arith}
 use Rattle.term_core.specs.Tree.{Tree, atom}
-use Rattle.term_core.specs.Flat.{flatten, parse}
+use Rattle.term_core.specs.Flat.{flatten}
 use Rattle.term_core.specs.declared.node.Node.{Node}
 use Rattle.term_core.specs.Variables.{occurrences, variables, renamed, numbered}
 use Rattle.store.specs.Cells.{Cells, IsCell, tree_of, Keeps, Makes}

@@ -1,13 +1,11 @@
 -- What the bits of each kind of word say.
-use Rattle.std.proofs.Common.{◌≡◌, ℕ, ◌+◌, ◌-◌, ◌*◌, ◌/◌, ◌%◌, ◌^◌, ◌<◌, ◌≤◌, ◌==◌, Bool, true, false, cond, ℤ, pos, ◌+ℤ◌, ◌-ℤ◌, ◌≤ℤ◌, neg_ℤ, refl, ap, ◌∙◌, sym, arith}
+use Rattle.std.proofs.Common.{◌≡◌, ℕ, ◌+◌, ◌-◌, ◌*◌, ◌/◌, ◌%◌, ◌^◌, ◌<◌, ◌≤◌, ◌==◌, Bool, true, false, ℤ, pos, ◌+ℤ◌, ◌-ℤ◌, ◌≤ℤ◌, neg_ℤ, refl, ap, ◌∙◌, sym, arith}
 use lib.IntN.{nat_abs}
 use mir.Val.{bool_byte}
 use Rattle.std.proofs.lemmas.Int.{ints}
 use Rattle.std.proofs.lemmas.Bool.Decides.{nat_tests}
-use Rattle.store.specs.declared.word.Word.{Word}
-use Rattle.store.specs.declared.word.Shape.{Shape}
 use Rattle.store.specs.declared.word.Shape.TheVariants.{Var, Int, Large, Atom, Comp}
-use Rattle.store.specs.Words.{shape_of, shape_of_bits}
+use Rattle.store.specs.Words.{shape_of_bits}
 
 pub small_shape : (b q : ℕ) → b ≡ 4 * q → shape_of_bits b ≡ Int (pos q -ℤ pos (2 ^ 61))
 small_shape b q e =

@@ -1,5 +1,5 @@
 -- What is read off a word.
-use Rattle.std.proofs.Common.{◌≡◌, ℕ, zero, suc, ◌+◌, ◌-◌, ◌<◌, ◌≤◌, Bool, List, [], ◌∷◌, ◌++◌, length, get_or, take, drop, map, refl, ap, ◌∙◌, sym, subst, append_assoc, length-append, arith}
+use Rattle.std.proofs.Common.{◌≡◌, ℕ, suc, ◌+◌, ◌-◌, ◌<◌, ◌≤◌, Bool, List, [], ◌∷◌, ◌++◌, length, get_or, take, drop, map, refl, ap, ◌∙◌, sym, subst, append_assoc, length-append, arith}
 use Rattle.std.proofs.lemmas.List.{length-take-le, length-drop, get_or-take, get_or-drop, take_all, get_or_default}
 use Rattle.std.proofs.lemmas.List.Concat.{flat_map-append}
 use Rattle.store.proofs.Putting.{element_before}
@@ -12,7 +12,6 @@ use Rattle.term_core.specs.Flat.{flatten, flatten_all}
 use Rattle.term_core.specs.Parts.{symbol_of, arguments_of}
 use Rattle.term_core.proofs.Lists.{arity-trees_of}
 use Rattle.store.specs.declared.word.Word.{Word}
-use Rattle.store.specs.declared.word.Shape.{Shape}
 use Rattle.store.specs.declared.word.Shape.TheVariants.{Comp}
 use Rattle.store.specs.Words.{shape_of}
 use Rattle.store.specs.Heap.{Known, name_at, block, shape_tree, IsCompound, IsShape, word_tree, IsWord, tree_at, Grows, gathered}

@@ -1,19 +1,18 @@
 -- Words that wait for their compound, the last one first.
-use Rattle.std.proofs.Common.{◌≡◌, ℕ, zero, suc, ◌+◌, ◌-◌, ◌<◌, ◌≤◌, Bool, true, false, Option, Some, None, List, [], ◌∷◌, ◌++◌, length, get_or, take, drop, map, reverse, refl, ap, ◌∙◌, sym, subst, append-nil, append_assoc, length-append, arith}
+use Rattle.std.proofs.Common.{◌≡◌, ℕ, zero, suc, ◌+◌, ◌-◌, ◌<◌, ◌≤◌, Bool, true, Some, List, [], ◌∷◌, ◌++◌, length, take, drop, map, reverse, refl, ap, ◌∙◌, sym, subst, append_assoc, length-append, arith}
 use native.Mathlib.Numerals.{unary_clauses}
-use Rattle.std.specs.Option.{option_to_list}
-use Rattle.std.proofs.lemmas.List.{reverse-append, drop-map, take-map, length-reverse, length-map, length-drop, take_all, drop-drop, length-take-le, drop_at, get_or-reverse}
+use Rattle.std.proofs.lemmas.List.{reverse-append, drop-map, length-reverse, length-map, take_all, drop-drop, length-take-le, drop_at, get_or-reverse}
 use Rattle.std.specs.List.{flat_map, All}
 use Rattle.std.proofs.lemmas.List.Concat.{flat_map-append}
-use Rattle.std.proofs.lemmas.List.Elements.{All-push, All-weaker, All-pop, All-append, All-from_get_or, All-get_or}
-use Rattle.term_core.specs.Tree.{Tree, compound, Trees, trees_of}
+use Rattle.std.proofs.lemmas.List.Elements.{All-push, All-pop, All-from_get_or, All-get_or}
+use Rattle.term_core.specs.Tree.{Tree, compound, trees_of}
 use Rattle.term_core.specs.Variables.{occurrences, all_occurrences}
 use Rattle.store.specs.declared.word.Word.{Word}
 use Rattle.store.specs.declared.word.Shape.{Shape}
 use Rattle.store.specs.declared.word.Shape.TheVariants.{Var, Int, Large, Atom, Comp}
 use Rattle.store.specs.Words.{shape_of, is_closed_shape}
-use Rattle.store.specs.Heap.{Known, name_at, block, shape_tree, IsCompound, IsShape, word_tree, IsWord, HasTree, trees_on, Grows, gathered, Lays}
-use Rattle.store.proofs.Growing.{length-begins, get_or-begins, Grows-same, shape_tree-grows, IsShape-grows, HasTree-grows, All-grows}
+use Rattle.store.specs.Heap.{Known, name_at, block, shape_tree, IsShape, word_tree, IsWord, HasTree, trees_on, Grows, gathered, Lays}
+use Rattle.store.proofs.Growing.{length-begins, get_or-begins, shape_tree-grows, IsShape-grows, All-grows}
 
 pub reverse-push : {A : Type 0} (xs : List A) (x : A) → reverse (xs ++ x ∷ []) ≡ x ∷ reverse xs
 reverse-push xs x = reverse-append xs (x ∷ [])

@@ -1,11 +1,10 @@
 -- Each tree of a heap is a term's.
-use Rattle.std.proofs.Common.{◌≡◌, ℕ, zero, suc, ◌+◌, ◌<◌, ◌≤◌, ℤ, List, [], ◌∷◌, ◌++◌, length, get_or, take, drop, map, refl, ap, ◌∙◌, sym, subst, append-nil, max, Bool, true, false, cond, ◌==◌, arith}
+use Rattle.std.proofs.Common.{◌≡◌, ℕ, ◌+◌, ℤ, List, [], ◌∷◌, ◌++◌, drop, map, refl, ap, ◌∙◌, sym, arith}
 use Rattle.std.specs.List.{All}
-use Rattle.std.proofs.lemmas.List.Elements.{All-nil, All-push, All-take, All-drop, All-get_or}
-use Rattle.std.proofs.lemmas.Bool.Decides.{nat_tests}
-use Rattle.term_core.specs.Tree.{Tree, variable, integer, atom, compound, Trees, no_trees, tree, trees_of, arity, IsTerm, AreTerms}
+use Rattle.std.proofs.lemmas.List.Elements.{All-nil, All-push, All-take, All-drop}
+use Rattle.term_core.specs.Tree.{Tree, variable, integer, atom, compound, Trees, no_trees, tree, trees_of, arity, IsTerm}
 use Rattle.term_core.specs.Variables.{occurrences, all_occurrences, distinct_after, variables, map_variables, map_all_variables, renamed, numbered, above_all, first_free}
-use Rattle.term_core.specs.Substitution.{substituted, all_substituted, value_of, apply}
+use Rattle.term_core.specs.Substitution.{all_substituted, value_of, apply}
 use Rattle.term_core.proofs.Lists.{arity-trees_of, AreTerms-trees_of}
 use Rattle.store.specs.declared.word.Word.{Word}
 use Rattle.store.specs.declared.word.Shape.{Shape}

@@ -1,5 +1,5 @@
 -- What the words of a heap stand for.
-use Rattle.std.specs.Prelude.{◌≡◌, ℕ, suc, ◌+◌, ◌<◌, ◌≤◌, Bool, true, false, ℤ, pos, List, [], ◌∷◌, ◌++◌, length, slice_index_or, take, drop, map, reverse, ⊤}
+use Rattle.std.specs.Prelude.{◌≡◌, ℕ, ◌+◌, ◌<◌, ◌≤◌, Bool, true, ℤ, pos, List, [], ◌∷◌, ◌++◌, length, slice_index_or, take, drop, map, reverse, ⊤}
 use Rattle.std.specs.List.{flat_map, All}
 use Rattle.term_core.specs.Tree.{Tree, variable, integer, atom, compound, trees_of}
 use Rattle.term_core.specs.Variables.{occurrences}

@@ -1,4 +1,4 @@
-use Rattle.std.proofs.Common.{◌≡◌, ◌+◌, ◌∙◌, sym, subst, arith}
+use Rattle.std.proofs.Common.{◌≡◌, ◌+◌, ◌∙◌, sym, arith}
 use Rattle.term_core.specs.Variables.{first_free}
 use Rattle.store.proofs.Terms.{first_free-none, first_free-some}
 use Rattle.store.proofs.cells.first_free_above.Goals as goal

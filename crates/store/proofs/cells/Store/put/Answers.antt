@@ -1,4 +1,4 @@
-use Rattle.std.proofs.Common.{◌≡◌, List, ℕ, refl, sym, ap, ◌∙◌, arith}
+use Rattle.std.proofs.Common.{◌≡◌, List, ℕ, ap, ◌∙◌, arith}
 use Rattle.term_core.specs.Tree.{Tree}
 use Rattle.term_core.specs.Substitution.{apply}
 use Rattle.term_core.specs.Variables.{renamed}

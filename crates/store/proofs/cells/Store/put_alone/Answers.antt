@@ -1,6 +1,5 @@
-use Rattle.std.proofs.Common.{◌≡◌, ◌<◌, ℕ, List, [], length, get_or, refl, sym, subst, ap, ◌∙◌, arith}
-use Rattle.term_core.specs.Tree.{Tree, atom}
-use Rattle.term_core.specs.Flat.{flatten, parse}
+use Rattle.std.proofs.Common.{◌≡◌, ◌<◌, ℕ, [], length, get_or, refl, sym, ap, ◌∙◌, arith}
+use Rattle.term_core.specs.Tree.{atom}
 use Rattle.term_core.specs.Variables.{renamed}
 use Rattle.term_core.proofs.Preorder.{AreTermNodes-flatten}
 use Rattle.term_core.proofs.Storing.{parse_of}

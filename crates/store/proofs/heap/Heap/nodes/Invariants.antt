@@ -1,4 +1,4 @@
-use Rattle.std.proofs.Common.{◌≡◌, ◌+◌, ◌-◌, ◌≤◌, ◌++◌, length}
+use Rattle.std.proofs.Common.{◌≡◌, ◌-◌, ◌≤◌, ◌++◌, length}
 use Rattle.std.specs.List.{All, flat_map}
 use Rattle.term_core.specs.Flat.{flatten}
 use Rattle.store.specs.Heap.{known_of, IsWord, word_tree, trees_on}

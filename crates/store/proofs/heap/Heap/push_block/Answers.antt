@@ -1,9 +1,9 @@
-use Rattle.std.proofs.Common.{◌≡◌, List, ◌-◌, ◌+◌, ◌<◌, ◌∷◌, [], ◌++◌, ℕ, length, get_or, drop, subst, sym, ap, ◌∙◌, arith}
+use Rattle.std.proofs.Common.{◌≡◌, List, ◌-◌, ◌+◌, ◌<◌, ◌∷◌, [], ◌++◌, length, subst, sym, ap, ◌∙◌, arith}
 use Rattle.std.proofs.lemmas.List.Elements.{All-push}
 use Rattle.std.specs.List.{All}
 use Rattle.term_core.specs.Tree.{atom}
 use Rattle.store.specs.declared.word.Word.{Word}
-use Rattle.store.specs.Heap.{known_of, HasTree, IsWord, tree_at, block, trees_on}
+use Rattle.store.specs.Heap.{known_of, HasTree, IsWord, tree_at, trees_on}
 use Rattle.store.proofs.Heaps.{length-trees, word_of}
 use Rattle.store.proofs.Stacks.{trees_on-push}
 use Rattle.store.proofs.Reading.{argument_before}

@@ -1,4 +1,4 @@
-use Rattle.std.proofs.Common.{[], length}
+use Rattle.std.proofs.Common.{[]}
 use Rattle.std.proofs.lemmas.List.{get_or_read}
 use Rattle.store.specs.Heap.{known_of}
 use Rattle.store.proofs.Reading.{is_compound, compound_symbol}

@@ -1,4 +1,4 @@
-use Rattle.std.proofs.Common.{◌≡◌, ◌/◌, ap, ◌∙◌, sym, arith}
+use Rattle.std.proofs.Common.{◌/◌, ap, ◌∙◌, sym, arith}
 use Rattle.std.proofs.lemmas.Int.{ints}
 use Rattle.store.specs.Words.{shape_of}
 use Rattle.store.specs.declared.word.Shape.TheVariants.{Int}
