@@ -1,7 +1,6 @@
 ghost use Rattle.std.specs.Prelude.{◌≡◌};
 ghost use Rattle.op_table.specs.Table.{is_prefix, left_of, right_of, kind_named};
 
-use std::alloc::{AllocError, AllocFailed};
 use term_core::Memory;
 
 /// Where an operator stands, and which priorities its operands have (ISO 13211-1, 6.3.4.4).
@@ -43,18 +42,6 @@ impl From<Memory> for OpFault {
     ghost from_gives = { λ _ result. result ≡ Starved };
 
     fn from(_refused: Memory) -> OpFault {
-        OpFault::Memory
-    }
-}
-
-impl From<AllocError> for OpFault {
-    fn from(_refused: AllocError) -> OpFault {
-        OpFault::Memory
-    }
-}
-
-impl<T: Drop> From<AllocFailed<T>> for OpFault {
-    fn from(_refused: AllocFailed<T>) -> OpFault {
         OpFault::Memory
     }
 }
