@@ -1,9 +1,9 @@
-ghost use Rattle.std.specs.Prelude.{◌≡◌, ◌++◌, ◌≤◌, List, [], ◌∷◌, map, take, drop, length, All, Ok, IfOk, IfErr, OnOk, IsOk};
+ghost use Rattle.std.specs.Prelude.{◌≡◌, ◌++◌, ◌≤◌, List, [], ◌∷◌, map, take, drop, length, All, Ok, Some, None, MatchOption, IfOk, IfErr, OnOk, IsOk};
 ghost use Rattle.term_core.specs.Tree.{Tree};
 ghost use Rattle.op_table.specs.Table.{iso_prefix, iso_infix, Table};
 ghost use Rattle.prolog_read.specs.Variables.{Names, IsNumbered};
 ghost use Rattle.prolog_read.specs.Reads.{Reads, is_end, before_end, from_end};
-ghost use Rattle.prolog_read.specs.Clauses.{ReadsClauses, iso, obeyed, by_arguments};
+ghost use Rattle.prolog_read.specs.Clauses.{ReadsClauses, iso, declared, obeyed};
 ghost use Rattle.prolog_read.specs.Outcome.{term_read, clauses_read, term_of, reading_of, read_as, place_of, only_term, clauses, IsRefusal, Tells};
 ghost use Rattle.std.specs.List.{prefix_len};
 ghost use Rattle.prolog_read.specs.Views.{tokens_in, is_inner, AreTokensOf};
@@ -81,12 +81,7 @@ fn check_syntax(
 }
 
 // The one term of these tokens, with an end behind it or none.
-fn only_term(
-    alloc: Global,
-    text: &str,
-    ops: &Ops,
-    tokens: &[Token],
-) -> Result<ReadTerm, ReadFault>
+fn only_term(alloc: Global, text: &str, ops: &Ops, tokens: &[Token]) -> Result<ReadTerm, ReadFault>
     requires { AreTokensOf text.now tokens.now }
     ensures ok { IfOk result (λ r. only_term ops.now text.now (tokens_in tokens.now) ≡ Ok (read_as r)) }
     ensures err { IfErr result (Tells (only_term ops.now text.now (tokens_in tokens.now))) }
@@ -95,9 +90,7 @@ fn only_term(
     let end = place_of(text, behind);
     if behind.len() > 1 {
         check_syntax(alloc, text, ops, front, end)?;
-        return Err(ReadFault::Syntax {
-            at: behind[1].from,
-        });
+        return Err(ReadFault::Syntax { at: behind[1].from });
     }
     term_of(alloc, text, ops, front, end)
 }
@@ -125,26 +118,36 @@ pub fn read_term(alloc: Global, text: &str, ops: &Ops) -> Result<ReadTerm, ReadF
     only_term(alloc, text, ops, &tokens)
 }
 
-// The operators that a clause leaves: those of a directive `:- op(P, K, F)` that the table takes are added.
-fn obey(ops: &mut Ops, clause: &Term) -> Result<(), Memory>
-    ensures { OnOk result (ops.new ≡ obeyed clause.now ops.old) }
+// The priority, the kind and the name of a directive `:- op(P, K, F)` of an integer, an atom and an atom.
+fn declared(clause: &Term) -> Option<(i128, &str, &str)>
+    ensures { MatchOption result (declared clause.now ≡ None) (λ d. declared clause.now ≡ Some (d.0, d.1.now, d.2.now)) }
 {
     let nodes = clause.nodes();
     if nodes.len() != 5 {
-        return Ok(());
+        return None;
     }
     let (Node::Comp(neck, 1), Node::Comp(op, 3)) = (&nodes[0], &nodes[1]) else {
-        return Ok(());
+        return None;
     };
     if neck.as_str() != ":-" || op.as_str() != "op" {
-        return Ok(());
+        return None;
     }
-    let (Node::Int(priority), Node::Atom(kind), Node::Atom(name)) =
-        (&nodes[2], &nodes[3], &nodes[4])
-    else {
+    match (&nodes[2], &nodes[3], &nodes[4]) {
+        (Node::Int(priority), Node::Atom(kind), Node::Atom(name)) => {
+            Some((*priority, kind.as_str(), name.as_str()))
+        }
+        _ => None,
+    }
+}
+
+// Adds the operator that a clause declares, where the table takes it.
+fn obey(ops: &mut Ops, clause: &Term) -> Result<(), Memory>
+    ensures { OnOk result (ops.new ≡ obeyed clause.now ops.old) }
+{
+    let Some((priority, kind, name)) = declared(clause) else {
         return Ok(());
     };
-    match ops.add(*priority, kind.as_str(), name.as_str()) {
+    match ops.add(priority, kind, name) {
         Err(OpFault::Memory) => Err(Memory),
         Ok(()) | Err(OpFault::BadPriority | OpFault::BadKind | OpFault::Clash) => Ok(()),
     }
