@@ -1,5 +1,6 @@
 pub mod Goals
 pub mod Laws
+pub mod Primitives
 pub mod Program
 pub mod Rows
 pub mod Run
