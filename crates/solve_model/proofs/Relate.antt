@@ -5,9 +5,10 @@ use Rattle.term_core.specs.Tree.{Tree}
 use Rattle.term_core.specs.Parts.{arguments_of}
 use Rattle.term_core.specs.Substitution.{apply}
 use Rattle.term_core.specs.Unifier.{mgu}
+use Rattle.program.specs.Clauses.{Clause, clauses_of}
 use Rattle.solve_model.specs.Goals.{Row, Succeeds, Fails, Cuts, Both, Either, IfElse, Test, Differ, Call, Catch, Throw, Predicate, row_of, true_goal, Ready, Runs, Throws, ready, with_arguments}
-use Rattle.solve_model.specs.Primitives.{Primitive, Offers, Ball, Unknown}
-use Rattle.solve_model.specs.Run.{World, Bindings, Clause, Item, Goal, Commit, ExitCatch, End, Failed, Cut, Thrown, Waits, Spent, Outside, Place, Used, Ran, Runner, Branch, ends, after, at_failed, at_cut, at_condition, at_catch, cut_to, in_order, if_ready, entered, clauses_of, performed, called, locally, either_of, branched, differs, recovered_by, recovered, caught, goal_step, item_step, some_left}
+use Rattle.solve_model.specs.Primitives.{Outcome, Offers, Ball, Unknown}
+use Rattle.solve_model.specs.Run.{World, Bindings, Item, Goal, Commit, ExitCatch, End, Failed, Cut, Thrown, Waits, Spent, Outside, Place, Used, Ran, Runner, Branch, ends, after, at_failed, at_cut, at_condition, at_catch, cut_to, in_order, if_ready, entered, performed, called, locally, either_of, branched, differs, recovered_by, recovered, caught, goal_step, item_step, some_left}
 
 -- what is done at an end passes on a run that stopped for want of steps or of a reply
 pub record PassesStops (k : End → Used → Ran) : Type 0 where
@@ -113,14 +114,14 @@ module _ (R : Used → Ran → Ran → Type 0) (w w' : World) (kept : IsKept R w
     locally_kept t is p o u =
         kept.at_after u _ _ _ _ (related _ _ o u) (cut_passes p.level) (cut_passes p.level) (cut_kept p.level)
 
-    performed_kept : (q : Primitive) (i : Pi) (is : List Item) (p : Place) (o : Bool) (u : Used) → R u (performed r q i is p o u) (performed r' q i is p o u)
+    performed_kept : (q : Outcome) (i : Pi) (is : List Item) (p : Place) (o : Bool) (u : Used) → R u (performed r q i is p o u) (performed r' q i is p o u)
     performed_kept (Offers rs) i is p o u = in_order_kept _ o u
     performed_kept (Ball b) i is p o u = kept.at_end _ tt u
     performed_kept Unknown i is p o u = kept.at_end _ tt u
 
     called_kept : (cs : List Clause) (i : Pi) (t : Tree) (is : List Item) (p : Place) (o : Bool) (u : Used) → R u (called w r cs i t is p o u) (called w' r' cs i t is p o u)
     called_kept [] i t is p o u =
-        subst (λ (f : Pi → List Tree → ℕ → Primitive). R u (performed r (w.primitive i (arguments_of (apply p.subst t)) p.next) i is p o u) (performed r' (f i (arguments_of (apply p.subst t)) p.next) i is p o u)) (sym kept.same_primitive) (performed_kept (w.primitive i (arguments_of (apply p.subst t)) p.next) i is p o u)
+        subst (λ (f : List ℕ → List Tree → ℕ → Outcome). R u (performed r (w.primitive i.name (arguments_of (apply p.subst t)) p.next) i is p o u) (performed r' (f i.name (arguments_of (apply p.subst t)) p.next) i is p o u)) (sym kept.same_primitive) (performed_kept (w.primitive i.name (arguments_of (apply p.subst t)) p.next) i is p o u)
     called_kept (c ∷ cs) i t is p o u =
         kept.at_after u _ _ _ _ (in_order_kept _ o u) (cut_passes p.level) (cut_passes p.level) (cut_kept p.level)
 

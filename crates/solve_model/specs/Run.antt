@@ -1,28 +1,23 @@
 -- Depth-first resolution (ISO 13211-1, 7.7). A run takes the first item of its list again and again; each item taken is one step.
 use Rattle.std.specs.Prelude.{ℕ, zero, suc, ◌+◌, min, max, Bool, true, false, ◌||◌, ◌&&◌, ◌==◌, List, [], ◌∷◌, ◌++◌, map, nat_lt, if◌then◌else◌, Option, Some, None, bytes_eq}
 use Rattle.term_core.specs.declared.pi.Pi.{Pi}
-use Rattle.term_core.specs.Tree.{Tree, variable, integer, atom, compound, arity}
+use Rattle.term_core.specs.Tree.{Tree, variable, integer, atom, compound}
 use Rattle.term_core.specs.Parts.{arguments_of}
 use Rattle.term_core.specs.Variables.{renamed, numbered, first_free}
 use Rattle.term_core.specs.Substitution.{apply}
 use Rattle.term_core.specs.Unifier.{mgu}
-use Rattle.solve_model.specs.Goals.{Row, Succeeds, Fails, Cuts, Both, Either, IfElse, Test, Differ, Call, Catch, Throw, Predicate, row_of, true_goal, fail_goal, Ready, Runs, Throws, ready, with_arguments, instantiation_error, existence_error}
-use Rattle.solve_model.specs.Primitives.{Offer, Primitive, Offers, Ball, Unknown}
+use Rattle.program.specs.Clauses.{Clause, clauses_of}
+use Rattle.solve_model.specs.Goals.{Row, Succeeds, Fails, Cuts, Both, Either, IfElse, Test, Differ, Call, Catch, Throw, Predicate, row_of, true_goal, fail_goal, Ready, Runs, Throws, ready, with_arguments, unbound_goal, unknown_predicate}
+use Rattle.solve_model.specs.Primitives.{Offer, Outcome, Offers, Ball, Unknown}
 
 -- a substitution: for each variable bound, its number and its term
 abbrev pub Bindings : Type 0
 Bindings = List (ℕ × Tree)
 
--- a clause, whose variables are numbered from 0 below `vars`
-pub record Clause : Type 0 where
-  pub head : Tree
-  pub body : Tree
-  pub vars : ℕ
-
--- what stays the same in a run: the clauses in the order of the text, the primitives over a goal's arguments and the next variable, the replies to prompts, and the limit of steps
+-- what stays the same in a run: the clauses in the order of the text, the primitives by name over arguments and the next variable, the replies to prompts, and the limit of steps
 pub record World : Type 0 where
   pub clauses : List Clause
-  pub primitive : Pi → List Tree → ℕ → Primitive
+  pub primitive : List ℕ → List Tree → ℕ → Outcome
   pub replies : List Tree
   pub limit : ℕ
 
@@ -155,18 +150,6 @@ deeper n p = record p { level = p.level + n }
 abbrev pub at_subst : Bindings → ℕ → Place → Place
 at_subst s v p = record p { subst = s; next = v }
 
--- whether a clause's head has this indicator
-abbrev pub is_for : Pi → Tree → Bool
-is_for i (atom f) = bytes_eq i.name f && i.arity == 0
-is_for i (compound f ts) = bytes_eq i.name f && i.arity == arity ts
-is_for i (variable n) = false
-is_for i (integer z) = false
-
--- the clauses of a predicate, in order
-unfoldable pub clauses_of : Pi → List Clause → List Clause
-clauses_of i [] = []
-clauses_of i (c ∷ cs) = if is_for i c.head then c ∷ clauses_of i cs else clauses_of i cs
-
 -- a clause's body before the rest, under the substitution that unifies the renamed head with the goal
 abbrev pub body_branch : Clause → List Item → Place → Bool → Bindings → Branch
 body_branch c is p o s = record {
@@ -197,15 +180,15 @@ offered (r ∷ rs) is p =
     ]
 
 -- a primitive by what it gives; where no primitive has the indicator, the predicate is unknown
-abbrev pub performed : Runner → Primitive → Pi → List Item → Place → Bool → Used → Ran
+abbrev pub performed : Runner → Outcome → Pi → List Item → Place → Bool → Used → Ran
 performed run (Offers rs) i is p o u = in_order run (offered rs is p) o u
 performed run (Ball b) i is p o u = throws b is u
-performed run Unknown i is p o u = throws (existence_error i) is u
+performed run Unknown i is p o u = throws (unknown_predicate i) is u
 
 -- a call of a predicate by its clauses, in which a cut is local, or of a primitive where it has no clauses
 abbrev pub called : World → Runner → List Clause → Pi → Tree → List Item → Place → Bool → Used → Ran
 called w run [] i t is p o u =
-    performed run (w.primitive i (arguments_of (apply p.subst t)) p.next) i is p o u
+    performed run (w.primitive i.name (arguments_of (apply p.subst t)) p.next) i is p o u
 called w run (c ∷ cs) i t is p o u = after (in_order run (entered (c ∷ cs) t is p o) o u) (at_cut p.level)
 
 -- a goal as by `call`: its cut is local
@@ -248,7 +231,7 @@ caught run g catching recovery is p o u =
 
 -- throw/1 of a term under the substitution (ISO 13211-1, 7.8.10)
 abbrev pub thrown : Tree → Tree
-thrown (variable n) = instantiation_error
+thrown (variable n) = unbound_goal
 thrown t = t
 
 -- one goal, by its row of the table
