@@ -3,8 +3,10 @@
 #![tactic(auto)]
 
 mod errors;
+mod functions;
 
 pub use errors::{
     domain_error, error, evaluation_error, existence_error, indicator, instantiation_error,
     representation_error, resource_error, syntax_error, type_error,
 };
+pub use functions::{Binary, Fault, Relation, Unary};
