@@ -8,7 +8,7 @@ use Rattle.term_core.specs.Substitution.{apply}
 use Rattle.term_core.specs.Unifier.{mgu}
 use Rattle.program.specs.Clauses.{Clause, clauses_of}
 use Rattle.solve_model.specs.Goals.{Row, Succeeds, Fails, Cuts, Both, Either, IfElse, Test, Differ, Call, Catch, Throw, Predicate, row_of, true_goal, fail_goal, Ready, Runs, Throws, ready, with_arguments, unbound_goal, unknown_predicate}
-use Rattle.solve_model.specs.Primitives.{Offer, Outcome, Offers, Ball, Unknown}
+use Rattle.builtin_table.specs.Primitives.{Offer, Outcome, Offers, Ball, Unknown}
 
 -- a substitution: for each variable bound, its number and its term
 abbrev pub Bindings : Type 0

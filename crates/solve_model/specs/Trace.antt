@@ -7,11 +7,12 @@ use Rattle.solve_model.specs.declared.answers.TraceMark.{TraceMark}
 use Rattle.solve_model.specs.declared.answers.TraceMark.TheVariants as shown
 use Rattle.solve_model.specs.declared.answers.TraceEnd.{TraceEnd}
 use Rattle.solve_model.specs.declared.answers.TraceEnd.TheVariants as ended
-use Rattle.solve_model.specs.Primitives.{primitive}
+use Rattle.program.specs.Clauses.{Clause}
+use Rattle.builtin_table.specs.Primitives.{primitive}
 use Rattle.solve_model.specs.Run as run
 
 -- the world of a program's clauses and the primitives
-abbrev pub world_of : List run.Clause → (replies : List Tree) → (limit : ℕ) → run.World
+abbrev pub world_of : List Clause → (replies : List Tree) → (limit : ℕ) → run.World
 world_of cs ts n = record { clauses = cs; primitive = primitive; replies = ts; limit = n }
 
 -- an answer is the template under its substitution

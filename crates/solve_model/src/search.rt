@@ -46,6 +46,14 @@ pub(crate) struct Branch {
     pub(crate) place: Place,
 }
 
+// A goal's surroundings: what a cut in it does, what is left to do after it and where, and whether an alternative is left beside it.
+#[derive(Drop)]
+pub(crate) struct Context {
+    pub(crate) scope: Scope,
+    pub(crate) rest: Branch,
+    pub(crate) more: bool,
+}
+
 #[derive(Drop)]
 pub(crate) enum End {
     Failed,
