@@ -57,43 +57,50 @@ abbrev pub disjunction : Option (Tree × Tree) → Tree → Tree → Row
 disjunction None a b = Either a b
 disjunction (Some p) a b = IfElse p.0 p.1 b
 
-unfoldable pub row_of_atom : List ℕ → Row
-row_of_atom f =
-    row_named f (
+abbrev pub atom_rows : List (List ℕ × Row)
+atom_rows =
     (codes "true", Succeeds)
     ∷ (codes "fail", Fails)
     ∷ (codes "false", Fails)
     ∷ (codes "!", Cuts)
-    ∷ []) (Predicate (indicator f 0) (atom f))
+    ∷ []
 
-unfoldable pub row_of_one : List ℕ → Tree → Row
-row_of_one f a =
-    row_named f (
+unfoldable pub row_of_atom : List ℕ → Row
+row_of_atom f = row_named f atom_rows (Predicate (indicator f 0) (atom f))
+
+abbrev pub one_rows : Tree → List (List ℕ × Row)
+one_rows a =
     (codes "\\+", Test a fail_goal true_goal)
     ∷ (codes "once", Test a true_goal fail_goal)
     ∷ (codes "ignore", Test a true_goal true_goal)
     ∷ (codes "throw", Throw a)
-    ∷ []) (Predicate (indicator f 1) (one_argument f a))
+    ∷ []
+
+unfoldable pub row_of_one : List ℕ → Tree → Row
+row_of_one f a = row_named f (one_rows a) (Predicate (indicator f 1) (one_argument f a))
 
 -- forall(C,A) is \+ (C, \+ A)
 abbrev pub counterexample : Tree → Tree → Tree
 counterexample c a = two_arguments (codes ",") c (one_argument (codes "\\+") a)
 
-unfoldable pub row_of_two : List ℕ → Tree → Tree → Row
-row_of_two f a b =
-    row_named f (
+abbrev pub two_rows : Tree → Tree → List (List ℕ × Row)
+two_rows a b =
     (codes ",", Both a b)
     ∷ (codes ";", disjunction (arrow a) a b)
     ∷ (codes "->", IfElse a b fail_goal)
     ∷ (codes "\\=", Differ a b)
     ∷ (codes "forall", Test (counterexample a b) fail_goal true_goal)
-    ∷ []) (Predicate (indicator f 2) (two_arguments f a b))
+    ∷ []
+
+unfoldable pub row_of_two : List ℕ → Tree → Tree → Row
+row_of_two f a b = row_named f (two_rows a b) (Predicate (indicator f 2) (two_arguments f a b))
+
+abbrev pub three_rows : Tree → Tree → Tree → List (List ℕ × Row)
+three_rows a b c = (codes "catch", Catch a b c) ∷ []
 
 unfoldable pub row_of_three : List ℕ → Tree → Tree → Tree → Row
 row_of_three f a b c =
-    row_named f (
-    (codes "catch", Catch a b c)
-    ∷ []) (Predicate (indicator f 3) (compound f (tree a (tree b (tree c no_trees)))))
+    row_named f (three_rows a b c) (Predicate (indicator f 3) (compound f (trees_of (a ∷ b ∷ c ∷ []))))
 
 unfoldable pub row_of_arguments : List ℕ → Tree → Trees → Row
 row_of_arguments f a no_trees = row_of_one f a

@@ -1,5 +1,5 @@
 -- What the code reads off a goal.
-use Rattle.std.specs.Prelude.{ℕ, ◌-◌, Bool, true, false, not, bytes_eq, codes, ◌&&◌, ◌==◌, List, []}
+use Rattle.std.specs.Prelude.{ℕ, Bool, true, false, not, bytes_eq, codes, nat_le, ◌&&◌, ◌==◌, List, []}
 use Rattle.std.specs.Ordering.{is_eq, int_cmp}
 use Rattle.term_core.specs.declared.node.Node.{Node}
 use Rattle.term_core.specs.declared.node.Node.TheVariants as node
@@ -36,6 +36,10 @@ row_as t row.Predicate = goals.Predicate (indicator_of t) t
 abbrev pub ready_as : Ready → goals.Ready
 ready_as (made.Runs t) = goals.Runs t
 ready_as (made.Throws b) = goals.Throws b
+
+-- whether a compound of this name and so many arguments is call/1 to call/8
+abbrev pub is_call_of : List ℕ → ℕ → Bool
+is_call_of f k = (nat_le 1 k && nat_le k 8) && bytes_eq f (codes "call")
 
 -- the symbol of C -> T
 abbrev pub is_arrow_symbol : Node → Bool

@@ -149,8 +149,14 @@ fn caught_by(
     ensures subst { IfOk result (λ r. option_map (λ f. f.subst) r ≡ mgu ((renamed place.now.next ball.now, catching) ∷ []) place.now.subst) }
     ensures next { IfOk result (λ r. IfSome r (λ f. f.next ≡ place.now.next + first_free ball.now)) }
 {
-    let next = place.next.checked_add(ball.first_free()?).ok_or(Memory)?;
+    let fresh = ball.first_free()?;
+    if place.next > u64::MAX - fresh {
+        return Err(Memory);
+    }
     let pairs = vec![in alloc; (ball.rename(alloc, place.next)?, catching)]?;
     let Some(subst) = unify(alloc, &pairs, &place.subst)? else { return Ok(None) };
-    Ok(Some(Found { subst, next }))
+    Ok(Some(Found {
+        subst,
+        next: place.next + fresh,
+    }))
 }

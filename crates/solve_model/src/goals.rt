@@ -1,10 +1,10 @@
 // How a goal is read: what its step is.
-ghost use Rattle.std.specs.Prelude.{◌≡◌, ◌≤◌, ◌==◌, ◌&&◌, [], ◌∷◌, length, nat_le, bytes_eq, codes, false, IfOk};
+ghost use Rattle.std.specs.Prelude.{◌≡◌, [], ◌∷◌, length, false, IfOk};
 ghost use Rattle.term_core.specs.Tree.{Tree, atom, compound, trees_of};
 ghost use Rattle.term_core.specs.Parts.{symbol_of, arguments_of};
 ghost use Rattle.builtin_table.specs.Errors.{one_argument as one_argument_of, two_arguments as two_arguments_of};
 ghost use Rattle.solve_model.specs.Goals.{arrow, counterexample as counterexample_tree, disjunction as disjunction_row, row_of, row_of_atom as row_of_name, row_of_one as row_of_one_tree, row_of_two as row_of_two_trees, row_of_three as row_of_three_trees, true_goal, fail_goal};
-ghost use Rattle.solve_model.specs.Rows.{indicator_of, is_arrow_symbol, row_as};
+ghost use Rattle.solve_model.specs.Rows.{indicator_of, is_arrow_symbol, is_call_of, row_as};
 
 use crate::arguments::{first_and_others, one_argument, three_arguments, two_arguments};
 use std::alloc::Global;
@@ -47,9 +47,9 @@ pub(crate) fn row_of_goal(alloc: Global, goal: &Term) -> Result<Row, Memory>
 
 // Whether this is call/1 to call/8.
 fn is_call(name: &str, count: u32) -> bool
-    ensures { result ≡ (nat_le count 8 && bytes_eq name.now (codes "call")) }
+    ensures { result ≡ is_call_of name.now count }
 {
-    count <= 8 && name == "call"
+    count >= 1 && count <= 8 && name == "call"
 }
 
 fn row_of_atom(name: &str) -> Row
@@ -66,7 +66,7 @@ fn row_of_atom(name: &str) -> Row
 // The row of a compound that is no call/1 to call/8.
 fn row_of_compound(alloc: Global, name: &str, count: u32, goal: &Term) -> Result<Row, Memory>
     requires symbol { symbol_of goal.now ≡ Node.Comp name.now count }
-    requires no_call { (nat_le count 8 && bytes_eq name.now (codes "call")) ≡ false }
+    requires no_call { is_call_of name.now count ≡ false }
     ensures { IfOk result (λ row. row_as goal.now row ≡ row_of goal.now) }
 {
     match count {

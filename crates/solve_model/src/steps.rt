@@ -3,7 +3,7 @@ ghost use Rattle.std.specs.Prelude.{◌≡◌, ℕ, List, IfOk};
 ghost use Rattle.term_core.specs.Tree.{Tree};
 ghost use Rattle.solve_model.specs.Goals.{row_of};
 ghost use Rattle.solve_model.specs.Run.{World, Used, at_catch, at_condition, goal_step as goal_step_run, item_step as item_step_run};
-ghost use Rattle.solve_model.specs.Search.{place_of, items_of, item_of, end_of, recovers, runs, runs_branch, at_frame, Leaves};
+ghost use Rattle.solve_model.specs.Search.{place_of, items_of, item_of, end_of, recovers, run_of, runs, runs_branch, at_frame, Leaves};
 ghost use Rattle.solve_model.specs.Trace.{world_of};
 
 use crate::calls::{call, choose, take_result};
@@ -31,36 +31,53 @@ fn goal_step(
 {
     let Goal { term, scope } = goal;
     stack.work.spend(&term)?;
-    let now = match row_of_goal(alloc, &term)? {
-        Row::Succeeds => Now::Runs(rest, more),
-        Row::Fails => Now::Ends(End::Failed),
-        Row::Cuts => cut(scope, rest, stack)?,
+    match row_of_goal(alloc, &term)? {
+        Row::Succeeds => Ok(Now::Runs(rest, more)),
+        Row::Fails => Ok(Now::Ends(End::Failed)),
+        Row::Cuts => {
+            let now = cut(scope, rest, stack)?;
+            Ok(now)
+        }
         Row::Both(first, second) => {
             let rest = with_goal(rest, second, scope)?;
-            Now::Runs(with_goal(rest, first, scope)?, more)
+            let branch = with_goal(rest, first, scope)?;
+            Ok(Now::Runs(branch, more))
         }
         Row::Either(first, second) => {
-            either(alloc, first, second, Context { scope, rest, more }, stack)?
+            let now = either(alloc, first, second, Context { scope, rest, more }, stack)?;
+            Ok(now)
         }
         Row::IfElse(condition, then, otherwise) => {
             let context = Context { scope, rest, more };
-            branch_on(alloc, condition, then, otherwise, context, stack)?
+            let now = branch_on(alloc, condition, then, otherwise, context, stack)?;
+            Ok(now)
         }
         Row::Test(condition, then, otherwise) => {
             let context = Context { scope, rest, more };
-            test(alloc, &condition, then, otherwise, context, stack)?
+            let now = test(alloc, &condition, then, otherwise, context, stack)?;
+            Ok(now)
         }
         Row::Differ(first, second) => {
-            differ(alloc, first, second, Context { scope, rest, more }, stack)?
+            let now = differ(alloc, first, second, Context { scope, rest, more }, stack)?;
+            Ok(now)
         }
-        Row::Call(goal, added) => call_with(alloc, &goal, &added, rest, more, stack)?,
+        Row::Call(goal, added) => {
+            let now = call_with(alloc, &goal, &added, rest, more, stack)?;
+            Ok(now)
+        }
         Row::Catch(goal, catching, recovery) => {
-            catch(alloc, &goal, catching, recovery, rest, more, stack)?
+            let now = catch(alloc, &goal, catching, recovery, rest, more, stack)?;
+            Ok(now)
         }
-        Row::Throw(ball) => throw_term(alloc, &ball, &rest, stack)?,
-        Row::Predicate => call(alloc, program, term, rest, more, stack)?,
-    };
-    Ok(now)
+        Row::Throw(ball) => {
+            let now = throw_term(alloc, &ball, &rest, stack)?;
+            Ok(now)
+        }
+        Row::Predicate => {
+            let now = call(alloc, program, term, rest, more, stack)?;
+            Ok(now)
+        }
+    }
 }
 
 // The first item, before the rest.
