@@ -32,7 +32,12 @@ pub(crate) fn throw(alloc: Global, ball: &Term, items: &[Item]) -> Result<Now, M
 }
 
 // Runs a goal as by `call`: a cut in it stops here.
-pub(crate) fn locally(goal: Term, rest: Branch, more: bool, stack: &mut Stack) -> Result<Now, Memory>
+pub(crate) fn locally(
+    goal: Term,
+    rest: Branch,
+    more: bool,
+    stack: &mut Stack,
+) -> Result<Now, Memory>
     ensures { IfOk result (λ n. (w : World) (u : Used) →
         Leaves w stack.old stack.new n u (locally_run (runs w) goal (items_of rest.items.items) (place_of rest.place) more u)) }
 {
@@ -115,7 +120,12 @@ pub(crate) fn choose(
     stack.work.spend_all(&first.subst)?;
     match next_match(alloc, clauses, &choice.goal, &choice.place, first.at + 1)? {
         None => {
-            let Choice { items, place, more, .. } = choice;
+            let Choice {
+                items,
+                place,
+                more,
+                ..
+            } = choice;
             let branch = body_branch(alloc, first.clause, items, &place, more, first.subst)?;
             Ok(Now::Runs(branch, more))
         }
@@ -149,7 +159,12 @@ pub(crate) fn take_result(
     ensures { IfOk result (λ n. (w : World) (u : Used) → Leaves w stack.old stack.new n u (taken_results w found results u)) }
 {
     stack.work.spend_all(&found.subst)?;
-    let Results { mut offers, items, place, more } = results;
+    let Results {
+        mut offers,
+        items,
+        place,
+        more,
+    } = results;
     match next_result(alloc, &mut offers, &place)? {
         None => {
             let branch = found_branch(found, items, place.level);
@@ -158,7 +173,12 @@ pub(crate) fn take_result(
         Some(next) => {
             let copies = copied_items(alloc, &items, &mut stack.work)?;
             let branch = found_branch(found, copies, place.level);
-            let others = Results { offers, items, place, more };
+            let others = Results {
+                offers,
+                items,
+                place,
+                more,
+            };
             push(stack, Frame::Results(next, others))?;
             Ok(Now::Runs(branch, true))
         }
@@ -193,7 +213,12 @@ fn take_results(
     match next_result(alloc, &mut offers, &place)? {
         None => Ok(Now::Ends(End::Failed)),
         Some(found) => {
-            let results = Results { offers, items, place, more };
+            let results = Results {
+                offers,
+                items,
+                place,
+                more,
+            };
             let now = take_result(alloc, found, results, stack)?;
             Ok(now)
         }

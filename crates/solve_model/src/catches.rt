@@ -38,7 +38,12 @@ pub(crate) fn call_with(
 }
 
 // The terms under a substitution.
-fn applied(alloc: Global, terms: &[Term], subst: &Subst, work: &mut Work) -> Result<Vec<Term>, Memory>
+fn applied(
+    alloc: Global,
+    terms: &[Term],
+    subst: &Subst,
+    work: &mut Work,
+) -> Result<Vec<Term>, Memory>
     ensures { IfOk result (λ v. v.items ≡ map (apply subst.now) terms.now) }
 {
     let mut all = Vec::new(alloc);
@@ -74,7 +79,13 @@ pub(crate) fn catch(
             let copy = copied_branch(alloc, &rest, &mut stack.work)?;
             let branch = watched(goal, copy, more)?;
             let Branch { items, place } = rest;
-            let catcher = Catcher { catching, recovery, items, place, more };
+            let catcher = Catcher {
+                catching,
+                recovery,
+                items,
+                place,
+                more,
+            };
             push(stack, Frame::Catch(catcher))?;
             Ok(Now::Runs(branch, more))
         }
@@ -95,7 +106,12 @@ fn watched(goal: Term, rest: Branch, more: bool) -> Result<Branch, Memory>
 }
 
 // throw/1: a variable throws an error instead.
-pub(crate) fn throw_term(alloc: Global, ball: &Term, rest: &Branch, stack: &mut Stack) -> Result<Now, Memory>
+pub(crate) fn throw_term(
+    alloc: Global,
+    ball: &Term,
+    rest: &Branch,
+    stack: &mut Stack,
+) -> Result<Now, Memory>
     ensures { IfOk result (λ n. (w : World) (u : Used) →
         Leaves w stack.old stack.new n u (throws (thrown_tree (apply rest.now.place.subst ball.now)) (items_of rest.now.items.items) u)) }
 {
@@ -124,7 +140,13 @@ pub(crate) fn recover(
 ) -> Result<Now, Memory>
     ensures { IfOk result (λ n. (w : World) (u : Used) → Leaves w stack.old stack.new n u (recovers w catcher ball u)) }
 {
-    let Catcher { catching, recovery, items, place, more } = catcher;
+    let Catcher {
+        catching,
+        recovery,
+        items,
+        place,
+        more,
+    } = catcher;
     let Some(found) = caught_by(alloc, &ball, catching, &place)? else {
         let level = catcher_of(&items);
         return Ok(Now::Ends(End::Thrown(ball, level)));
@@ -134,7 +156,11 @@ pub(crate) fn recover(
     stack.work.spend(&recovery)?;
     let ready = make_ready(alloc, recovery)?;
     let Found { subst, next } = found;
-    let place = Place { subst, next, level: place.level };
+    let place = Place {
+        subst,
+        next,
+        level: place.level,
+    };
     let now = call_ready(alloc, ready, Branch { items, place }, more, stack)?;
     Ok(now)
 }
@@ -154,7 +180,9 @@ fn caught_by(
         return Err(Memory);
     }
     let pairs = vec![in alloc; (ball.rename(alloc, place.next)?, catching)]?;
-    let Some(subst) = unify(alloc, &pairs, &place.subst)? else { return Ok(None) };
+    let Some(subst) = unify(alloc, &pairs, &place.subst)? else {
+        return Ok(None)
+    };
     Ok(Some(Found {
         subst,
         next: place.next + fresh,

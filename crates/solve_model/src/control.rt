@@ -148,8 +148,11 @@ fn fail_later(
         level,
     };
     let items = copied_items(alloc, &rest.items, &mut stack.work)?;
-    let Branch { mut items, place } =
-        with_goal(Branch { items, place }, Term::atom(alloc, "fail")?, scope)?;
+    let Branch { mut items, place } = with_goal(
+        Branch { items, place },
+        Term::atom(alloc, "fail")?,
+        scope,
+    )?;
     put_first(&mut items, Item::Commit(Scope { level, more }))?;
     let place = deeper(place, 2)?;
     let other = with_goal(rest, Term::atom(alloc, "true")?, scope)?;

@@ -31,7 +31,11 @@ pub(crate) fn deeper(place: Place, levels: u64) -> Result<Place, Memory>
     ensures { IfOk result (λ p. place_of p ≡ deeper_place levels (place_of place)) }
 {
     let level = place.level.checked_add(levels).ok_or(Memory)?;
-    let Place { subst, next, level: _ } = place;
+    let Place {
+        subst,
+        next,
+        level: _,
+    } = place;
     Ok(Place { subst, next, level })
 }
 

@@ -5,7 +5,9 @@ ghost use Rattle.builtin_table.specs.Errors.{instantiation_error as instantiatio
 ghost use Rattle.solve_model.specs.Goals.{control_error as control_error_of, not_callable as not_callable_tree, ready as ready_tree, ready_compound as ready_compound_tree, unbound_goal as unbound_goal_tree, unknown_predicate as unknown_predicate_of, with_arguments as with_arguments_tree};
 ghost use Rattle.solve_model.specs.Rows.{ready_as};
 
-use builtin_table::{error, existence_error, instantiation_error, representation_error, type_error};
+use builtin_table::{
+    error, existence_error, instantiation_error, representation_error, type_error,
+};
 use program::is_body;
 use std::alloc::Global;
 use term_core::{Memory, Node, Pi, Term};
@@ -32,11 +34,7 @@ pub(crate) fn make_ready(alloc: Global, goal: Term) -> Result<Ready, Memory>
 }
 
 // A goal with these arguments added behind its own, as call/1 to call/8 take it.
-pub(crate) fn with_arguments(
-    alloc: Global,
-    goal: Term,
-    added: Vec<Term>,
-) -> Result<Ready, Memory>
+pub(crate) fn with_arguments(alloc: Global, goal: Term, added: Vec<Term>) -> Result<Ready, Memory>
     ensures { IfOk result (λ r. ready_as r ≡ with_arguments_tree goal added.items) }
 {
     if added.is_empty() {

@@ -38,7 +38,10 @@ pub fn trace(
             let items = vec![in alloc;
                 Item::Goal(Goal {
                     term,
-                    scope: Scope { level: 1, more: false }
+                    scope: Scope {
+                        level: 1,
+                        more: false
+                    }
                 }),
             ]?;
             let place = start(alloc, goal, template)?;

@@ -128,12 +128,7 @@ fn condition_step(branch: Branch, more: bool, end: End) -> Now
 }
 
 // The end of a goal under a catch.
-fn catch_step(
-    alloc: Global,
-    catcher: Catcher,
-    end: End,
-    stack: &mut Stack,
-) -> Result<Now, Memory>
+fn catch_step(alloc: Global, catcher: Catcher, end: End, stack: &mut Stack) -> Result<Now, Memory>
     ensures { IfOk result (λ n. (w : World) (u : Used) → Leaves w stack.old stack.new n u (at_catch catcher.place.level (recovers w catcher) (end_of end) u)) }
 {
     let level = catcher.place.level;
