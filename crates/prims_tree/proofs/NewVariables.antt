@@ -1,5 +1,5 @@
 -- New variables.
-use Rattle.std.proofs.Common.{◌≡◌, ℕ, zero, suc, ◌+◌, ◌<◌, ◌≤◌, ◌^◌, max, Bool, true, false, List, [], ◌∷◌, ◌++◌, length, map, cond, ◌==◌, refl, ap, sym, ◌∙◌, arith}
+use Rattle.std.proofs.Common.{◌≡◌, ℕ, zero, suc, ◌+◌, ◌≤◌, Bool, true, false, List, [], ◌∷◌, ◌++◌, length, cond, ◌==◌, refl, ap, ◌∙◌, arith}
 use Rattle.term_core.specs.Tree.{Tree, variable, integer, atom, compound, Trees, no_trees, tree, greatest}
 use Rattle.term_core.specs.Variables.{occurrences, all_occurrences, variables, place_of, map_variables, map_all_variables, numbered}
 use Rattle.builtin_table.specs.Primitives.{new_variables}

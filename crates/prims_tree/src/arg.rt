@@ -44,12 +44,7 @@ fn arg_ball(alloc: Global, formal: Term) -> Result<Outcome, Memory>
 }
 
 // The argument of this place of a term that is no variable.
-fn argument_at(
-    alloc: Global,
-    at: i128,
-    term: &Term,
-    argument: &Term,
-) -> Result<Outcome, Memory>
+fn argument_at(alloc: Global, at: i128, term: &Term, argument: &Term) -> Result<Outcome, Memory>
     requires { is_variable term.now ≡ false }
     ensures { IfOk result (λ o. outcome_of o ≡ arg_of (integer at) term.now argument.now) }
 {

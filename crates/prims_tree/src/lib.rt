@@ -3,7 +3,7 @@
 #![tactic(auto)]
 
 mod arg;
-mod call;
+mod by_name;
 mod compare;
 mod copies;
 mod functor;
@@ -15,6 +15,6 @@ mod results;
 mod univ;
 mod values;
 
-pub use call::call;
+pub use by_name::call;
 pub use offer::{Offer, Offers};
 pub use outcome::Outcome;

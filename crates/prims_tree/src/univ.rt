@@ -122,12 +122,7 @@ fn univ_compound(
     }
 }
 
-fn univ_atom(
-    alloc: Global,
-    term: &Term,
-    name: &str,
-    arguments: &[Term],
-) -> Result<Outcome, Memory>
+fn univ_atom(alloc: Global, term: &Term, name: &str, arguments: &[Term]) -> Result<Outcome, Memory>
     requires { 1 ≤ length arguments.now }
     ensures { IfOk result (λ o.
         outcome_of o ≡ univ_compound_of term.now (atom name.now) arguments.now) }
