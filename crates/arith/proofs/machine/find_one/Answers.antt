@@ -1,0 +1,22 @@
+use Rattle.std.proofs.Common.{◌≡◌, ℤ, List, arith, ap, ◌∙◌, sym}
+use Rattle.arith.specs.declared.machine.Task.{Task}
+use Rattle.arith.specs.declared.machine.Task.TheVariants.{Find, One}
+use Rattle.builtin_table.specs.Arithmetic.{unary_named}
+use Rattle.arith.specs.Machine.{run}
+use Rattle.arith.proofs.Parts.{length-arguments, one_planned, faulty, no_functor_one, two_more}
+use Rattle.store.specs.Cells.{tree_of}
+use Rattle.arith.proofs.machine.find_one.Goals as goal
+
+pub arg-requires-clause-within : goal.arg-requires-clause-within
+arg-requires-clause-within c =
+    omega (arith, length-arguments (tree_of c.args.store.now c.args.cell) c.args.name.now 1 c.requires.symbol)
+
+pub returns-in_ok-push-in-Some-2-clause-run : goal.returns-in_ok-push-in-Some-2-clause-run
+returns-in_ok-push-in-Some-2-clause-run c = λ vs.
+    ap (λ (ts : List Task). run c.args.store.now ts vs) (two_more c.args.tasks.now.items c.push.new.self.items c.push-in-Some.new.self.items (One c.in-Some.function) (Find c.arg.result) c.in_ok-push-in-Some.ensures.items c.in_ok-push-in-Some-2.ensures.items)
+    ∙ one_planned c.args.store.now c.args.cell c.args.name.now c.in-Some.function c.arg.result _ vs c.requires.symbol (c.in-Some.ensures ∙ ap unary_named c.as_str.ensures) c.arg.ensures.tree
+
+pub returns-in_ok-not_evaluable-in-None-clause-run : goal.returns-in_ok-not_evaluable-in-None-clause-run
+returns-in_ok-not_evaluable-in-None-clause-run c = λ vs.
+    faulty c.args.store.now c.args.cell c.args.name.now c.in_ok-not_evaluable-in-None.field-0 _ vs
+    (no_functor_one c.args.store.now c.args.cell c.args.name.now _ c.requires.symbol (c.in-None.ensures ∙ ap unary_named c.as_str.ensures) c.in_ok-not_evaluable-in-None.ensures)
