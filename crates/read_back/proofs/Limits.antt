@@ -1,15 +1,15 @@
 -- The limits of what is read hold of a term's numbered copy.
-use Rattle.std.specs.Prelude.{◌≡◌, refl, ℕ, ◌≤◌, ◌<◌, ◌^◌, ◌-◌, ℤ, pos, negsuc, neg_ℤ, int_le, true, ◌&&◌, nat_le}
+use Rattle.std.specs.Prelude.{◌≡◌, refl, ℕ, ◌≤◌, ◌^◌, ℤ, pos, negsuc, true, nat_le}
 use Rattle.std.specs.List.{list_all}
 use Rattle.std.proofs.Common.{arith, ◌∙◌}
-use Rattle.std.proofs.lemmas.Bool.{and_from}
+use Rattle.std.proofs.lemmas.Bool.{and_from, lt-ltb}
 use Rattle.std.proofs.lemmas.List.Folds.{list_all-append}
 use Rattle.term_core.specs.Tree.{Tree, variable, integer, atom, compound, Trees, no_trees, tree, arity, depth, IsTerm, AreTerms}
 use Rattle.term_core.specs.Flat.{flatten, flatten_all}
 use Rattle.term_core.specs.Variables.{map_variables, map_all_variables}
 use Rattle.term_core.proofs.Renaming.{depth-map_variables, IsTerm-map_variables}
 use Rattle.prolog_grammar.specs.Read.{has_arguments, is_within}
-use Rattle.prolog_read.specs.Reads.{has_range}
+use Rattle.prolog_read.specs.Reads.{has_range, in_range}
 use Rattle.read_back.specs.Sound.{IsSized, HasValues, HaveValues}
 
 at_most : (a b : ℕ) → a ≤ b → nat_le a b ≡ true
@@ -28,19 +28,16 @@ mutual
   all_arguments_fit (tree t ts) h =
       list_all-append has_arguments (flatten t) (flatten_all ts) ∙ and_from _ _ (arguments_fit t h.0) (all_arguments_fit ts h.1)
 
-below : (n k : ℕ) → n < k → nat_le n (k - 1) ≡ true
-below n k h = at_most n (k - 1) (omega arith)
-
-in_range : (z : ℤ) → IsSized z → (int_le (neg_ℤ (pos (2 ^ 127))) z && int_le z (pos (2 ^ 127 - 1))) ≡ true
-in_range (pos n) h = below n (2 ^ 127) h
-in_range (negsuc n) h = and_from _ _ (below n (2 ^ 127) h) refl
+sized : (z : ℤ) → IsSized z → in_range z ≡ true
+sized (pos n) h = lt-ltb n (2 ^ 127) h
+sized (negsuc n) h = lt-ltb n (2 ^ 127) h
 
 -- the key of each variable
 module _ (key : ℕ → ℕ) where
   mutual
     pub ranged : (t : Tree) → HasValues t → list_all has_range (flatten (map_variables key t)) ≡ true
     ranged (variable n) h = refl
-    ranged (integer z) h = and_from _ _ (in_range z h) refl
+    ranged (integer z) h = and_from _ _ (sized z h) refl
     ranged (atom f) h = refl
     ranged (compound f ts) h = all_ranged ts h.1
 

