@@ -23,6 +23,7 @@ use Rattle.prolog_grammar.specs.Machine as m
 use Rattle.prolog_grammar.specs.Read.{is_sized, has_sized, refusal, unless, ok_or, reading}
 use Rattle.prolog_grammar.proofs.Complete.{both, pair, none_some}
 use Rattle.prolog_grammar.proofs.Sound.{some_same, stuck}
+use Rattle.prolog_read.specs.Lexemes.{lexemes_of}
 use Rattle.prolog_read.specs.Reads.{has_range, IsShallow}
 use Rattle.prolog_read.proofs.Faults.{ok_err, ok_same}
 
@@ -275,9 +276,6 @@ module _ (prefix infix_op : Bytes → Option Op) where
       (backward (sized_state S) T (keeps_step k S) (not_stuck ks T r e) (run_sized ks T r e s)).0
 
   -- ---- the reading of placed tokens
-
-  abbrev lexemes_of : List Placed → List Lexeme
-  lexemes_of ps = map (λ p. p.lexeme) ps
 
   -- a token that isn't refused
   pub record Accepted (p : Placed) (T : State) : Type 0 where

@@ -128,5 +128,8 @@ behind_all text b (t ∷ u ∷ ts) =
     if is_pair t.kind u.kind then behind_all text (behind_pair b u) ts
     else behind_all text (behind text b t) (u ∷ ts)
 
+abbrev pub lexemes_of : List Placed → List Lexeme
+lexemes_of ps = map (λ p. p.lexeme) ps
+
 abbrev pub lexemes : Bytes → List Token → List Lexeme
-lexemes text ts = map (λ p. p.lexeme) (placed text nothing_before ts)
+lexemes text ts = lexemes_of (placed text nothing_before ts)
