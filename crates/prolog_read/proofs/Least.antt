@@ -1,10 +1,9 @@
 -- A fault of syntax stands at the first token that no continuation allows.
-use Rattle.std.proofs.Common.{◌≡◌, ◌∙◌, ℕ, ◌⊎◌, inl, inr, Bool, true, false, nat_le, List, [], ◌∷◌, ◌++◌, length, map, Option, Some, None, Result, Ok, Err, refl, ap, sym, subst, append_assoc, append-nil, if◌then◌else◌}
+use Rattle.std.proofs.Common.{◌≡◌, ◌∙◌, ℕ, ◌⊎◌, inl, inr, Bool, true, false, nat_le, List, [], ◌∷◌, ◌++◌, length, Option, Some, None, Result, Ok, Err, refl, ap, sym, subst, append_assoc, append-nil, if◌then◌else◌}
 use Rattle.std.proofs.lemmas.List.{map-append}
 use Rattle.std.proofs.lemmas.Bool.{false≢true}
 use Rattle.term_core.specs.Tokens.{Token}
 use Rattle.term_core.specs.Tokens as lex
-use Rattle.term_core.specs.Tree.{Tree}
 use Rattle.op_table.specs.declared.op.Op.{Op}
 use Rattle.op_table.specs.Table.{Table}
 use Rattle.prolog_lex.specs.Lexed.{tokens_of}
@@ -12,7 +11,7 @@ use Rattle.prolog_grammar.specs.declared.grammar.fault.Fault.{Fault}
 use Rattle.prolog_grammar.specs.declared.grammar.fault.Fault.TheVariants as grammar
 use Rattle.prolog_grammar.specs.declared.grammar.lexeme.Placed.{Placed}
 use Rattle.prolog_grammar.specs.declared.grammar.lexeme.Lexeme.{Lexeme}
-use Rattle.prolog_grammar.specs.Readings.{Bytes, Reading, IsReading, meaning}
+use Rattle.prolog_grammar.specs.Readings.{Bytes, Reading, meaning}
 use Rattle.prolog_grammar.specs.Machine.{State, start, is_stuck}
 use Rattle.prolog_grammar.specs.Machine as m
 use Rattle.prolog_grammar.specs.Read.{refusal, unless, ok_or, reading, has_sized}
@@ -25,7 +24,7 @@ use Rattle.prolog_read.specs.Lexemes.{nothing_before, placed, lexemes_of}
 use Rattle.prolog_read.specs.Reads.{prefix_of, infix_of, before_end, from_end, names_of}
 use Rattle.prolog_read.specs.Clauses.{Sentence, sentences, obeyed}
 use Rattle.prolog_read.specs.Outcome.{ReadAs, fault_of, told, and_then, lexed, place_of, term_of, alone, only_term, term_read, refused_at, reading_of, with_first, clauses_of, clauses, clauses_read, Tells}
-use Rattle.prolog_read.specs.Least.{MayGoOn, AreTerm, RefusesToken, WantsMore, SyntaxIn, SyntaxBehind, SyntaxAt, ClausesSyntaxAt, SourceSyntaxAt, IfSyntax}
+use Rattle.prolog_read.specs.Least.{RefusesToken, WantsMore, SyntaxIn, SyntaxBehind, SyntaxAt, ClausesSyntaxAt, SourceSyntaxAt, IfSyntax}
 use Rattle.prolog_read.proofs.Faults.{ok_err, err_same}
 use Rattle.prolog_read.proofs.Limits.{reading_run, start_sized}
 use Rattle.prolog_read.proofs.Exact.{is_term}

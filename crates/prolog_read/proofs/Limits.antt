@@ -1,5 +1,5 @@
 -- Integers and open brackets within their limits: what the machine checks at each token is what holds of the term.
-use Rattle.std.proofs.Common.{◌≡◌, ◌∙◌, ℕ, zero, suc, ◌≤◌, ◌^◌, Bool, true, false, not, ◌&&◌, ◌||◌, nat_lt, nat_le, ℤ, pos, negsuc, neg_ℤ, List, [], ◌∷◌, ◌++◌, map, All, Option, Some, None, Result, Ok, Err, if◌then◌else◌, refl, ap, sym, subst, arith}
+use Rattle.std.proofs.Common.{◌≡◌, ◌∙◌, ℕ, zero, suc, ◌≤◌, ◌^◌, Bool, true, false, ◌&&◌, nat_lt, nat_le, pos, neg_ℤ, List, [], ◌∷◌, Option, Some, None, Result, Ok, if◌then◌else◌, refl, ap, sym, subst, arith}
 use Rattle.std.specs.List.{list_all}
 use Rattle.std.proofs.Math.Bool.{and_assoc, and_comm, and-true}
 use Rattle.std.proofs.lemmas.Bool.{false≢true}
@@ -9,9 +9,8 @@ use Rattle.term_core.specs.Tree.{Tree, tree, no_trees, atom}
 use Rattle.term_core.specs.declared.node.Node.TheVariants.{Int}
 use Rattle.term_core.specs.Flat.{flatten, flatten_all}
 use Rattle.op_table.specs.declared.op.Op.{Op}
-use Rattle.op_table.specs.Table.{right_of}
 use Rattle.prolog_grammar.specs.declared.grammar.fault.Fault.{Fault}
-use Rattle.prolog_grammar.specs.declared.grammar.fault.Fault.TheVariants.{Syntax, Nesting, IntRange}
+use Rattle.prolog_grammar.specs.declared.grammar.fault.Fault.TheVariants.{Syntax, Nesting}
 use Rattle.prolog_grammar.specs.declared.grammar.lexeme.Word.{Word}
 use Rattle.prolog_grammar.specs.declared.grammar.lexeme.Placed.{Placed}
 use Rattle.prolog_grammar.specs.declared.grammar.lexeme.Lexeme.{Lexeme}

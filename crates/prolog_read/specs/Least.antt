@@ -1,11 +1,10 @@
 -- Where a fault of syntax stands: at the first token that no continuation allows, or at the end where more must come.
-use Rattle.std.specs.Prelude.{◌≡◌, ℕ, ◌⊎◌, List, [], ◌∷◌, ◌++◌, length, map, Ok, Option, ⊤}
+use Rattle.std.specs.Prelude.{◌≡◌, ℕ, ◌⊎◌, List, [], ◌∷◌, ◌++◌, length, Ok, ⊤}
 use Rattle.term_core.specs.Tokens.{Token}
 use Rattle.term_core.specs.Tree.{Tree}
 use Rattle.op_table.specs.Table.{Table}
 use Rattle.prolog_lex.specs.Lexed.{tokens_of}
 use Rattle.prolog_grammar.specs.declared.grammar.lexeme.Placed.{Placed}
-use Rattle.prolog_grammar.specs.declared.grammar.lexeme.Lexeme.{Lexeme}
 use Rattle.prolog_grammar.specs.Readings.{Bytes, Reading, IsReading}
 use Rattle.prolog_grammar.specs.Laws.{HasContinuation}
 use Rattle.prolog_read.specs.declared.fault.ReadFault.{ReadFault}

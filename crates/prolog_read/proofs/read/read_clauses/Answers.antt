@@ -1,6 +1,6 @@
-use Rattle.std.proofs.Common.{◌≡◌, ◌∙◌, Ok, ap, sym, map}
+use Rattle.std.proofs.Common.{◌≡◌, ◌∙◌, ap, sym, map}
 use Rattle.std.proofs.lemmas.Result.{IfOk-weaker, IfErr-weaker}
-use Rattle.prolog_read.specs.Clauses.{iso, sentences}
+use Rattle.prolog_read.specs.Clauses.{iso}
 use Rattle.prolog_read.specs.Outcome.{clauses_read, read_as, and_then, lexed, clauses}
 use Rattle.prolog_read.specs.Views.{tokens_in}
 use Rattle.prolog_read.proofs.Placing.{all_tokens}

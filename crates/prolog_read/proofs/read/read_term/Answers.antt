@@ -1,8 +1,6 @@
-use Rattle.std.proofs.Common.{◌≡◌, ◌∙◌, Ok, ap, sym}
+use Rattle.std.proofs.Common.{◌≡◌, ◌∙◌, ap, sym}
 use Rattle.std.proofs.lemmas.Result.{IfOk-weaker, IfErr-weaker}
-use Rattle.prolog_read.specs.Variables.{IsNumbered}
-use Rattle.prolog_read.specs.Reads.{Reads}
-use Rattle.prolog_read.specs.Outcome.{term_read, read_as, and_then, lexed, only_term, IsRefusal, Tells}
+use Rattle.prolog_read.specs.Outcome.{term_read, read_as, and_then, lexed, only_term}
 use Rattle.prolog_read.specs.Views.{tokens_in}
 use Rattle.prolog_read.proofs.Placing.{all_tokens}
 use Rattle.prolog_read.proofs.Exact.{found_reads, none_reads}
