@@ -1,0 +1,4 @@
+pub mod Cells
+pub mod NewVariables
+pub mod Slices
+pub mod TreeValues
