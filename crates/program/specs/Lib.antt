@@ -1,0 +1,4 @@
+pub mod Bodies
+pub mod Clauses
+pub mod Kept
+pub mod Source

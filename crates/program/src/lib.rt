@@ -1,0 +1,12 @@
+//! Programs: the clauses of a source text and of a library, found by their predicates.
+#![tactic(auto)]
+
+mod bodies;
+mod clause;
+mod fault;
+mod program;
+
+pub use bodies::is_body;
+pub use clause::Clause;
+pub use fault::ProgFault;
+pub use program::Program;
