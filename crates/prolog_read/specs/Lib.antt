@@ -1,5 +1,5 @@
-pub mod Machine
+pub mod Clauses
+pub mod Lexemes
 pub mod Outcome
-pub mod Small
-pub mod Tokens
-pub mod Views
+pub mod Reads
+pub mod Variables
