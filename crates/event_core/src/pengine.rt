@@ -145,8 +145,12 @@ impl Pengine {
         let place = mem::replace(&mut self.place, Place::Closed);
         let outcome = match place {
             Place::Asked(_) => end_with(alloc, self.settings.destroys, Event::Abort)?,
-            Place::Free | Place::Closed => Outcome {
-                place,
+            Place::Free => Outcome {
+                place: Place::Free,
+                events: List::new(alloc),
+            },
+            Place::Closed => Outcome {
+                place: Place::Closed,
                 events: List::new(alloc),
             },
         };
