@@ -11,4 +11,4 @@ mod turn;
 pub use fault::Fault;
 pub use laws::{every_reading_is_found, faults_are_least, what_is_found_is_a_reading};
 pub use lexeme::{Lexeme, Placed, Word};
-pub use reader::{MAX_ARGUMENTS, MAX_DEPTH, MAX_OPEN, read};
+pub use reader::{MAX_ARGUMENTS, MAX_DEPTH, MAX_OPEN, check, read};

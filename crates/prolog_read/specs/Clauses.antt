@@ -5,11 +5,15 @@ use Rattle.term_core.specs.Tokens.{Token}
 use Rattle.term_core.specs.Tree.{Tree, integer, atom, compound, Trees, no_trees, tree}
 use Rattle.op_table.specs.declared.op.Op.{Op}
 use Rattle.op_table.specs.declared.op.OpFault.{OpFault}
-use Rattle.op_table.specs.Table.{Table, asked, with_op}
+use Rattle.op_table.specs.Table.{Table, iso_prefix, iso_infix, asked, with_op}
 use Rattle.prolog_lex.specs.Lexed.{tokens_of}
 use Rattle.prolog_grammar.specs.Readings.{Bytes}
 use Rattle.prolog_read.specs.Variables.{Names}
 use Rattle.prolog_read.specs.Reads.{is_end, IsTermOf}
+
+-- the operators that a text begins with
+abbrev pub iso : Table
+iso = record { before = iso_prefix; between = iso_infix }
 
 -- ---- tokens split at their ends
 
@@ -61,7 +65,7 @@ AreClauses ops text [] [] = Unit {0}
 AreClauses ops text (s ∷ ss) (x ∷ xs) = IsTermOf ops text s.0 x.0 x.1 × AreClauses (obeyed x.0 ops) text ss xs
 AreClauses ops text _ _ = ⊥
 
--- The text is these clauses, each with an end.
+-- The text is these clauses, each with an end. It begins with the operators of this table.
 pub record ReadsClauses (ops : Table) (text : Bytes) (xs : List (Tree × Names)) : Type 0 where
   pub all : List Token
   pub tokens : tokens_of text ≡ Ok all

@@ -3,6 +3,7 @@ use Rattle.std.specs.Prelude.{ℕ, suc, ◌-◌, ◌==◌, ◌&&◌, Bool, true,
 use Rattle.std.specs.Str.{chars, bytes_eq}
 use Rattle.term_core.specs.Tokens.{Kind, name_token, quoted_token, variable_token, integer_token, text_token, open_token, close_token, open_list_token, close_list_token, open_curly_token, close_curly_token, comma_token, bar_token, end_token, Token, Value, name_value, variable_value, integer_value, text_value, no_value, value}
 use Rattle.prolog_grammar.specs.declared.grammar.lexeme.Placed.{Placed}
+use Rattle.prolog_grammar.specs.declared.grammar.lexeme.Word.{Word}
 use Rattle.prolog_grammar.specs.declared.grammar.lexeme.Lexeme.{Lexeme}
 use Rattle.prolog_grammar.specs.declared.grammar.lexeme.Lexeme.TheVariants.{Name, Integer, Variable, Text, Open, Close, OpenList, CloseList, OpenCurly, CloseCurly, Comma, Bar}
 use Rattle.prolog_grammar.specs.Readings.{Bytes, nil, curly}
@@ -38,6 +39,11 @@ is_pair open_list_token close_list_token = true
 is_pair open_curly_token close_curly_token = true
 is_pair _ _ = false
 
+-- a bracket at the head of these tokens is closed at once
+abbrev pub begins_with_pair : List Token → Bool
+begins_with_pair (t ∷ u ∷ ts) = is_pair t.kind u.kind
+begins_with_pair _ = false
+
 -- how many brackets are open with a token, its own among them
 abbrev pub open_with : Kind → ℕ → ℕ
 open_with open_token n = suc n
@@ -58,6 +64,10 @@ abbrev is_bare : Kind → Bool
 is_bare name_token = true
 is_bare _ = false
 
+-- a name, and whether it is an unquoted minus
+abbrev pub word_of : Kind → Bytes → Word
+word_of k f = record { text = f; is_minus = is_bare k && bytes_eq f (codes "-") }
+
 -- punctuation; an end is no token of a term
 abbrev pub mark : Kind → Bool → Lexeme
 mark open_token d = Open d
@@ -71,7 +81,7 @@ mark _ d = Bar
 
 -- by what a token stands for, where d says that it stands directly behind the one before it
 abbrev pub lexeme : Kind → Value → Bool → Numbering → Lexeme
-lexeme k (name_value f) d s = Name (record { text = f; is_minus = is_bare k && bytes_eq f (codes "-") })
+lexeme k (name_value f) d s = Name (word_of k f)
 lexeme k (variable_value w) d s = Variable (number_of s w)
 lexeme k (integer_value n) d s = Integer n d
 lexeme k (text_value cs) d s = Text cs

@@ -3,3 +3,4 @@ pub mod Lexemes
 pub mod Outcome
 pub mod Reads
 pub mod Variables
+pub mod Views

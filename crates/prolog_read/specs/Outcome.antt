@@ -2,10 +2,12 @@
 use Rattle.std.specs.Prelude.{◌≡◌, ℕ, List, [], ◌∷◌, length, Result, Ok, Err, ⊤}
 use Rattle.term_core.specs.Tokens.{Token, Reason, bad_char, unclosed, float_number, out_of_range}
 use Rattle.term_core.specs.Tokens as lex
+use Rattle.term_core.specs.declared.read_term.ReadTerm.{ReadTerm}
 use Rattle.term_core.specs.Tree.{Tree}
 use Rattle.op_table.specs.Table.{Table}
 use Rattle.prolog_lex.specs.declared.token.LexFault.{LexFault}
 use Rattle.prolog_lex.specs.declared.token.LexFault.TheVariants.{BadChar, Unclosed, FloatToken, IntRange}
+use Rattle.prolog_lex.specs.declared.token.LexFault.TheVariants as lexer
 use Rattle.prolog_lex.specs.Lexed.{tokens_of}
 use Rattle.prolog_grammar.specs.declared.grammar.fault.Fault.{Fault}
 use Rattle.prolog_grammar.specs.declared.grammar.fault.Fault.TheVariants as grammar
@@ -34,6 +36,11 @@ lex_fault f = by f.reason
     by unclosed = Unclosed f.at
     by float_number = FloatToken f.at
     by out_of_range = IntRange f.at
+
+-- a fault of the lexer's call
+abbrev pub of_lexer : LexFault → ReadFault
+of_lexer lexer.Memory = Memory
+of_lexer f = Lex f
 
 -- the grammar's fault, where an integer out of range is one of the tokens
 abbrev pub fault_of : Fault → ReadFault
@@ -111,3 +118,12 @@ Tells expected Memory = ⊤
 Tells expected (Lex f) = expected ≡ Err (Lex f)
 Tells expected (Syntax at) = expected ≡ Err (Syntax at)
 Tells expected (Nesting at) = expected ≡ Err (Nesting at)
+
+-- a refusal, which isn't want of memory
+abbrev pub IsRefusal : ReadFault → Type 0
+IsRefusal Memory = ⊥
+IsRefusal _ = ⊤
+
+-- what a term that was read is, for definitions
+abbrev pub read_as : ReadTerm → ReadAs
+read_as r = (r.term, r.names)

@@ -1,7 +1,9 @@
 -- The variables of a term, numbered from 0 by first occurrence (ISO 13211-1, 6.3.2).
-use Rattle.std.specs.Prelude.{ℕ, suc, List, [], ◌∷◌, ◌++◌, Option, Some, None, if◌then◌else◌, codes, unwrap_or}
+use Rattle.std.specs.Prelude.{◌≡◌, ℕ, zero, suc, List, [], ◌∷◌, ◌++◌, Option, Some, None, if◌then◌else◌, codes, unwrap_or}
 use Rattle.std.specs.Option.{is_some}
 use Rattle.std.specs.Str.{bytes_eq}
+use Rattle.term_core.specs.Tree.{Tree}
+use Rattle.term_core.specs.Variables.{variables, first_free}
 
 -- names as bytes, each with its number
 abbrev pub Names : Type 0
@@ -29,3 +31,12 @@ with_variable s w =
     if bytes_eq w (codes "_") then record { names = s.names; next = suc s.next }
     else (if is_some (lookup w s.names) then s
     else record { names = s.names ++ (w, s.next) ∷ []; next = suc s.next })
+
+-- the numbers below n, in order
+abbrev pub numbers_below : ℕ → List ℕ
+numbers_below zero = []
+numbers_below (suc n) = numbers_below n ++ n ∷ []
+
+-- the variables are numbered from 0 without a gap, by first occurrence
+abbrev pub IsNumbered : Tree → Type 0
+IsNumbered t = variables t ≡ numbers_below (first_free t)

@@ -1,15 +1,14 @@
-//! Reads the terms and the clauses of a Prolog text.
+//! Reads the terms and the clauses of a Prolog text (ISO/IEC 13211-1, 6.2 and 6.3).
 #![tactic(auto)]
 
+mod before;
 mod fault;
+mod lexemes;
+mod read;
+mod variables;
 
 pub use fault::ReadFault;
+pub use read::{read_clauses, read_term};
 
-ghost use Rattle.std.specs.Prelude.{◌≡◌};
-ghost use Rattle.prolog_read.specs.Outcome.{Tells};
-
-pub fn nothing() -> u32
-    ensures { result ≡ 0 }
-{
-    0
-}
+#[cfg(test)]
+mod tests;

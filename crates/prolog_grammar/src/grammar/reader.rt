@@ -1,4 +1,4 @@
-ghost use Rattle.std.specs.Prelude.{◌≡◌, [], Ok, Err, IfOk, IfErr, Some, None, ◌<◌, length};
+ghost use Rattle.std.specs.Prelude.{◌≡◌, [], Ok, Err, IfOk, IfErr, OnOk, IsOk, Some, None, ◌<◌, length};
 ghost use Rattle.op_table.specs.Table.{row};
 ghost use Rattle.prolog_grammar.specs.Stack as stack;
 ghost use Rattle.std.specs.List.{list_all};
@@ -123,6 +123,19 @@ pub(crate) fn within(alloc: Global, nodes: &[Node], at: u64) -> Result<Term, Fau
         return Err(Fault::Nesting { at });
     }
     Ok(term)
+}
+
+/// Whether these tokens are a term, however deep it is and however many arguments a compound has, where the text, or its end token,
+/// stands at `end`.
+///
+/// `Syntax` and `IntRange` come at the first token that is refused, `Nesting` at a bracket too many, in the order of their places.
+pub fn check(alloc: Global, ops: &Ops, tokens: &[Placed], end: u64) -> Result<(), Fault>
+    ensures ok { OnOk result (IsOk (reading (λ f. row f ops.now.before) (λ f. row f ops.now.between) end tokens.now start)) }
+    ensures err { IfErr result (λ fault. Tells (nodes_of (reading (λ f. row f ops.now.before) (λ f. row f ops.now.between) end tokens.now start)) fault) }
+{
+    let nodes = preorder(alloc, ops, tokens, end)?;
+    drop(nodes);
+    Ok(())
 }
 
 /// The term of these tokens, where the text, or its end token, stands at `end`.
