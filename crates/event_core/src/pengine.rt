@@ -70,6 +70,24 @@ impl Query {
     }
 }
 
+// What an abort does at a place of rest.
+fn break_off(alloc: Global, destroys: bool, place: Place) -> Result<Outcome, Memory>
+    ensures reading { IfOk result (λ o. (spec : Spec) → spec.destroys ≡ destroys → reading_at spec o ≡ strikes_at spec ByAbort (place_at spec place) []) }
+    ensures stands { IfOk result (λ o. (spec : Spec) → Stands spec o.place) }
+{
+    match place {
+        Place::Asked(_) => end_with(alloc, destroys, Event::Abort),
+        Place::Free => Ok(Outcome {
+            place: Place::Free,
+            events: List::new(alloc),
+        }),
+        Place::Closed => Ok(Outcome {
+            place: Place::Closed,
+            events: List::new(alloc),
+        }),
+    }
+}
+
 /// One pengine over a program (Lager and Wielemaker, TPLP 2014), which contracts see as its clauses, its settings and where it rests.
 /// The event `create` stands before all that its requests bring.
 #[derive(Debug, Drop)]
@@ -143,17 +161,7 @@ impl Pengine {
         ensures err { OnErr result (self.new.place ≡ Closed) }
     {
         let place = mem::replace(&mut self.place, Place::Closed);
-        let outcome = match place {
-            Place::Asked(_) => end_with(alloc, self.settings.destroys, Event::Abort)?,
-            Place::Free => Outcome {
-                place: Place::Free,
-                events: List::new(alloc),
-            },
-            Place::Closed => Outcome {
-                place: Place::Closed,
-                events: List::new(alloc),
-            },
-        };
+        let outcome = break_off(alloc, self.settings.destroys, place)?;
         self.place = outcome.place;
         Ok(outcome.events)
     }
