@@ -1,0 +1,6 @@
+pub mod Kept
+pub mod Lines
+pub mod Options
+pub mod Requests
+pub mod Shapes
+pub mod Spelled

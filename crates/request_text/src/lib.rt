@@ -1,0 +1,16 @@
+//! What clients write: the text of a request, and scripts of a source text and request lines.
+#![tactic(auto)]
+
+mod fault;
+mod options;
+mod parts;
+mod requests;
+mod script;
+mod sent;
+mod shapes;
+
+pub use fault::{RequestFault, ScriptFault, SpecFault, place_of};
+pub use requests::read_request;
+pub use script::{Script, read_script};
+pub use sent::Sent;
+
