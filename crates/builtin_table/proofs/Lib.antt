@@ -1,0 +1,4 @@
+pub mod Bits
+pub mod Powers
+pub mod Remainders
+pub mod Shifts

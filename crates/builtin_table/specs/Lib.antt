@@ -1,0 +1,4 @@
+pub mod Arithmetic
+pub mod Errors
+pub mod Lists
+pub mod Primitives

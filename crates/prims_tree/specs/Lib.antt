@@ -1,0 +1,4 @@
+pub mod Cells
+pub mod Outcomes
+pub mod Values
+pub mod Views

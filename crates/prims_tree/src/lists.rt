@@ -1,0 +1,86 @@
+// Lists as terms.
+ghost use Rattle.std.specs.Prelude.{◌≡◌, ◌≤◌, ◌∷◌, ◌++◌, length, drop, codes, IfOk, OnOk};
+ghost use Rattle.term_core.specs.declared.node.Node.TheVariants.{Comp};
+ghost use Rattle.term_core.specs.Parts.{symbol_of};
+ghost use Rattle.builtin_table.specs.Lists.{elements, rest as rest_of, is_list as is_list_tree, is_empty_list, list_of as list_of_trees};
+ghost use Rattle.prims_tree.specs.Cells.{is_cell_node};
+
+use std::alloc::Global;
+use term_core::{Memory, Name, Node, Term};
+
+// The elements of the cells that a term begins with, and what follows them.
+pub(crate) fn list_parts(alloc: Global, term: &Term) -> Result<(Vec<Term>, Term), Memory>
+    ensures elements { IfOk result (λ p. p.0.items ≡ elements term.now) }
+    ensures rest { IfOk result (λ p. p.1 ≡ rest_of term.now) }
+{
+    let mut nodes = term.nodes();
+    let mut elements = Vec::new(alloc);
+    while is_cell(&nodes[0]) {
+        let parts = behind(nodes, 1);
+        let element = Term::first_of(alloc, parts)?;
+        nodes = behind(parts, element.nodes().len());
+        elements.push(element)?;
+    }
+    let rest = Term::first_of(alloc, nodes)?;
+    Ok((elements, rest))
+}
+
+// All nodes but so many first ones.
+fn behind(nodes: &[Node], count: usize) -> &[Node]
+    requires { count ≤ length nodes.now }
+    ensures { result.now ≡ drop count nodes.now }
+{
+    &nodes[count..]
+}
+
+// Whether a list cell begins with this node.
+fn is_cell(node: &Node) -> bool
+    ensures { result ≡ is_cell_node node.now }
+{
+    match node {
+        Node::Comp(name, count) => *count == 2 && name.as_str() == ".",
+        Node::Var(_) | Node::Int(_) | Node::Atom(_) => false,
+    }
+}
+
+// Whether the term is the empty list.
+pub(crate) fn is_empty(term: &Term) -> bool
+    ensures { result ≡ is_empty_list term.now }
+{
+    match term.symbol() {
+        Node::Atom(name) => name.as_str() == "[]",
+        Node::Var(_) | Node::Int(_) | Node::Comp(_, _) => false,
+    }
+}
+
+// Whether nothing but the empty list follows the cells.
+pub(crate) fn is_list(alloc: Global, term: &Term) -> Result<bool, Memory>
+    ensures { IfOk result (λ b. b ≡ is_list_tree term.now) }
+{
+    let (_, rest) = list_parts(alloc, term)?;
+    Ok(is_empty(&rest))
+}
+
+// The list of these elements.
+pub(crate) fn list_of(alloc: Global, elements: &[Term]) -> Result<Term, Memory>
+    ensures { IfOk result (λ t. t ≡ list_of_trees elements.now) }
+{
+    let mut nodes = Vec::new(alloc);
+    for element in elements {
+        push_cell(alloc, &mut nodes, element.nodes())?;
+    }
+    nodes.push(Node::Atom(Name::new(alloc, "[]")?))?;
+    let list = Term::first_of(alloc, &nodes)?;
+    Ok(list)
+}
+
+// Puts a cell's first node and its element's nodes at the end.
+fn push_cell(alloc: Global, nodes: &mut Vec<Node>, element: &[Node]) -> Result<(), Memory>
+    ensures { OnOk result (nodes.new.items ≡ nodes.old.items ++ Comp (codes ".") 2 ∷ element.now) }
+{
+    nodes.push(Node::Comp(Name::new(alloc, ".")?, 2))?;
+    for node in element {
+        nodes.push(node.copied(alloc)?)?;
+    }
+    Ok(())
+}
