@@ -1,4 +1,6 @@
 pub mod Bodies
+pub mod ByPredicate
 pub mod Clauses
 pub mod Kept
 pub mod Source
+pub mod Symbols

@@ -1,23 +1,19 @@
 -- What the terms of a source text say: directives and clauses (ISO 13211-1, 7.4), which of them are refused, and the program that they make.
-use Rattle.std.specs.Prelude.{◌≡◌, ℕ, suc, Bool, true, false, not, ◌&&◌, ◌||◌, ◌==◌, List, [], ◌∷◌, ◌++◌, length, map, filter, if◌then◌else◌, codes, bytes_eq, Option, Some, None, is_some, is_ok, ⊤}
+use Rattle.std.specs.Prelude.{◌≡◌, ℕ, ◌+◌, Bool, true, false, not, ◌&&◌, ◌||◌, ◌==◌, List, [], ◌∷◌, ◌++◌, length, map, filter, if◌then◌else◌, codes, bytes_eq, Option, Some, None, is_some, is_ok, ⊤, All}
 use Rattle.std.specs.List.{list_any, filter_map}
 use Rattle.term_core.specs.declared.pi.Pi.{Pi}
 use Rattle.term_core.specs.declared.read_term.ReadTerm.{ReadTerm}
 use Rattle.term_core.specs.Tree.{Tree, variable, integer, atom, compound, Trees, no_trees, tree, tree_list}
 use Rattle.term_core.specs.Variables.{variables, first_free}
 use Rattle.op_table.specs.Table.{asked}
+use Rattle.program.specs.declared.source.Item.{Item}
+use Rattle.program.specs.declared.source.Item.TheVariants.{Directive, Rule}
 use Rattle.program.specs.declared.fault.ProgFault.{ProgFault}
 use Rattle.program.specs.declared.fault.ProgFault.TheVariants.{BadDirective, NotCallable, Redefines, Memory}
 use Rattle.program.specs.Bodies.{is_body}
 use Rattle.program.specs.Clauses.{Clause, indicator_of, is_for, same_indicator, clauses_of}
 
--- what a term of a source text is
-pub data Item : Type 0 where
-  -- `:- D`
-  Directive : Tree → Item
-  -- `Head :- Body`; a fact's body is `true`
-  Rule : (head body : Tree) → Item
-
+-- What a term of a source text is: `:- D` a directive, `Head :- Body` a rule, and any other term a fact, which is a rule whose body is `true`.
 abbrev pub fact : Tree → Item
 fact t = Rule t (atom (codes "true"))
 
@@ -32,61 +28,60 @@ item_of t = fact t
 
 -- ---- directives
 
--- library(Name)
-abbrev is_library_name : Tree → Bool
-is_library_name (atom name) = true
-is_library_name t = false
+abbrev pub is_one_atom : List Tree → Bool
+is_one_atom (atom name ∷ []) = true
+is_one_atom ts = false
 
-abbrev is_library : Tree → Bool
-is_library (compound f (tree name no_trees)) = bytes_eq f (codes "library") && is_library_name name
+-- library(Name)
+abbrev pub is_library : Tree → Bool
+is_library (compound f ts) = bytes_eq f (codes "library") && is_one_atom (tree_list ts)
 is_library t = false
 
--- an operator that op/3 takes, whatever the operators so far (ISO 13211-1, 8.14.3)
-abbrev is_operator : (priority kind name : Tree) → Bool
-is_operator (integer p) (atom kind) (atom name) = is_ok (asked p kind name)
-is_operator p kind name = false
+-- a library, and what is imported from it
+abbrev pub are_imports : List Tree → Bool
+are_imports (l ∷ []) = is_library l
+are_imports (l ∷ imports ∷ []) = is_library l
+are_imports ts = false
 
-abbrev is_directive_of : List ℕ → List Tree → Bool
-is_directive_of f (l ∷ []) = bytes_eq f (codes "use_module") && is_library l
-is_directive_of f (l ∷ imports ∷ []) = bytes_eq f (codes "use_module") && is_library l
-is_directive_of f (p ∷ kind ∷ name ∷ []) = bytes_eq f (codes "op") && is_operator p kind name
-is_directive_of f ts = false
+-- an operator that op/3 takes, whatever the operators so far (ISO 13211-1, 8.14.3)
+abbrev pub is_operator : List Tree → Bool
+is_operator (integer p ∷ atom kind ∷ atom name ∷ []) = is_ok (asked p kind name)
+is_operator ts = false
 
 -- the directives that are accepted: the use of a library, which has no effect, and op/3
 unfoldable pub is_directive : Tree → Bool
-is_directive (compound f ts) = is_directive_of f (tree_list ts)
+is_directive (compound f ts) =
+    (bytes_eq f (codes "use_module") && are_imports (tree_list ts)) || (bytes_eq f (codes "op") && is_operator (tree_list ts))
 is_directive t = false
 
 -- ---- faults
 
-abbrev begins_with_dollar : List ℕ → Bool
+abbrev pub begins_with_dollar : List ℕ → Bool
 begins_with_dollar [] = false
 begins_with_dollar (c ∷ cs) = c == 36
 
 -- a predicate that no source text may define
 abbrev pub is_taken : List Pi → Pi → Bool
-is_taken reserved pi = list_any (same_indicator pi) reserved || begins_with_dollar pi.name
+is_taken reserved pi = list_any (λ r. same_indicator r pi) reserved || begins_with_dollar pi.name
 
-abbrev redefines : List Pi → ℕ → Pi → Option ProgFault
+abbrev pub redefines : List Pi → ℕ → Pi → Option ProgFault
 redefines reserved n pi = if is_taken reserved pi then Some (Redefines n pi) else None
 
--- a clause's fault: its head or its body is no such thing, or it defines a predicate that it may not
-unfoldable pub fault_of_rule : List Pi → ℕ → (head body : Tree) → Option ProgFault
-fault_of_rule reserved n h b =
-    elim (indicator_of h) [
-      | None ↦ Some (NotCallable n)
-      | Some pi ↦ if is_body b then redefines reserved n pi else Some (NotCallable n)
-    ]
+-- a rule's fault, by the predicate that its head is of and whether its body is one
+abbrev pub fault_at : List Pi → ℕ → Option Pi → Bool → Option ProgFault
+fault_at reserved n None is_body = Some (NotCallable n)
+fault_at reserved n (Some pi) false = Some (NotCallable n)
+fault_at reserved n (Some pi) true = redefines reserved n pi
 
 unfoldable pub fault_of : List Pi → ℕ → Item → Option ProgFault
 fault_of reserved n (Directive d) = if is_directive d then None else Some (BadDirective n)
-fault_of reserved n (Rule h b) = fault_of_rule reserved n h b
+fault_of reserved n (Rule h b) = fault_at reserved n (indicator_of h) (is_body b)
 
 -- the fault of the first term that has one, where the first of these terms has the number n; directives are counted
 unfoldable pub first_fault : List Pi → ℕ → List Tree → Option ProgFault
 first_fault reserved n [] = None
 first_fault reserved n (t ∷ ts) =
-    elim (fault_of reserved n (item_of t)) [ None ↦ first_fault reserved (suc n) ts | Some fault ↦ Some fault ]
+    elim (fault_of reserved n (item_of t)) [ None ↦ first_fault reserved (n + 1) ts | Some fault ↦ Some fault ]
 
 -- what is told is the fault found; want of memory is free
 abbrev pub Tells : Option ProgFault → ProgFault → Type 0
@@ -123,3 +118,6 @@ trees_read rs = map (λ r. r.term) rs
 -- the variables are numbered from 0 without a gap: there are as many as numbers below the first free one
 abbrev pub IsNumbered : Tree → Type 0
 IsNumbered t = length (variables t) ≡ first_free t
+
+abbrev pub AreNumbered : List ReadTerm → Type 0
+AreNumbered rs = All (λ r. IsNumbered r.term) rs

@@ -3,10 +3,18 @@
 
 mod bodies;
 mod clause;
+mod clause_map;
+mod directive;
+mod entry;
 mod fault;
 mod program;
+mod source;
+mod texts;
 
 pub use bodies::is_body;
 pub use clause::Clause;
 pub use fault::ProgFault;
 pub use program::Program;
+
+#[cfg(test)]
+mod tests;
