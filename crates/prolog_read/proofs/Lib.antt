@@ -1,1 +1,4 @@
+pub mod Faults
 pub mod Indexing
+pub mod Placing
+pub mod Sentences

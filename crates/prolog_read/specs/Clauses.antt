@@ -35,27 +35,39 @@ sentences (t ∷ ts) = if is_end t.kind then (([], t.from) ∷ (sentences ts).0,
 
 -- ---- `:- op(P, K, F)` (ISO 13211-1, 7.4.2.4 and 8.14.3)
 
+-- a priority, a kind and a name
+abbrev pub Declaration : Type 0
+Declaration = ℤ × Bytes × Bytes
+
+abbrev by_arguments : Trees → Option Declaration
+by_arguments (tree (integer p) (tree (atom k) (tree (atom f) no_trees))) = Some (p, k, f)
+by_arguments _ = None
+
+abbrev by_goal : Tree → Option Declaration
+by_goal (compound f ts) = if bytes_eq f (codes "op") then by_arguments ts else None
+by_goal _ = None
+
+abbrev by_directive : Bytes → Trees → Option Declaration
+by_directive f (tree t no_trees) = if bytes_eq f (codes ":-") then by_goal t else None
+by_directive f _ = None
+
+-- the operator that a clause declares: that of a directive of an integer, an atom and an atom
+abbrev pub declared : Tree → Option Declaration
+declared (compound f ts) = by_directive f ts
+declared _ = None
+
 -- the table with the operator that is asked for, or as it is where it is refused
-abbrev pub added : Result Op OpFault → Bytes → Table → Table
+abbrev added : Result Op OpFault → Bytes → Table → Table
 added (Ok o) f ops = with_op f o ops
 added (Err e) f ops = ops
 
-abbrev pub by_arguments : Trees → Table → Table
-by_arguments (tree (integer p) (tree (atom k) (tree (atom f) no_trees))) ops = added (asked p k f) f ops
-by_arguments _ ops = ops
+abbrev pub with_declared : Option Declaration → Table → Table
+with_declared None ops = ops
+with_declared (Some d) ops = added (asked d.0 d.1 d.2) d.2 ops
 
-abbrev pub by_goal : Tree → Table → Table
-by_goal (compound f ts) ops = if bytes_eq f (codes "op") then by_arguments ts ops else ops
-by_goal _ ops = ops
-
-abbrev pub by_directive : Bytes → Trees → Table → Table
-by_directive f (tree t no_trees) ops = if bytes_eq f (codes ":-") then by_goal t ops else ops
-by_directive f _ ops = ops
-
--- the operators behind a clause; an `op/3` that isn't an integer, an atom and an atom changes none
+-- the operators behind a clause
 abbrev pub obeyed : Tree → Table → Table
-obeyed (compound f ts) ops = by_directive f ts ops
-obeyed _ ops = ops
+obeyed t ops = with_declared (declared t) ops
 
 -- ---- clauses
 

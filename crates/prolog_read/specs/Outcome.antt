@@ -88,8 +88,11 @@ alone ops text ts (e ∷ u ∷ us) = refused_at u.from (reading_of ops text e.fr
 alone ops text ts es = term_of ops text (place_of text es) ts
 
 -- one term, an end or none, and nothing else
+abbrev pub only_term : Table → Bytes → List Token → Answer
+only_term ops text ts = alone ops text (before_end ts) (from_end ts)
+
 abbrev pub term_read : Table → Bytes → Answer
-term_read ops text = and_then (lexed (tokens_of text)) (λ ts. alone ops text (before_end ts) (from_end ts))
+term_read ops text = and_then (lexed (tokens_of text)) (only_term ops text)
 
 -- ---- clauses
 
@@ -107,8 +110,11 @@ abbrev pub clauses_of : Table → Bytes → List Sentence → List Token → Res
 clauses_of ops text [] rest = unended ops text rest
 clauses_of ops text (s ∷ ss) rest = and_then (term_of ops text s.1 s.0) (λ x. with_first x (clauses_of (obeyed x.0 ops) text ss rest))
 
+abbrev pub clauses : Table → Bytes → List Token → Result (List ReadAs) ReadFault
+clauses ops text ts = clauses_of ops text (sentences ts).0 (sentences ts).1
+
 abbrev pub clauses_read : Table → Bytes → Result (List ReadAs) ReadFault
-clauses_read ops text = and_then (lexed (tokens_of text)) (λ ts. clauses_of ops text (sentences ts).0 (sentences ts).1)
+clauses_read ops text = and_then (lexed (tokens_of text)) (clauses ops text)
 
 -- ---- what a call answers
 

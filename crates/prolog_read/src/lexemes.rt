@@ -17,6 +17,14 @@ fn begins_with_pair(tokens: &[Token]) -> bool
     tokens.len() > 1 && is_pair(tokens[0].kind, tokens[1].kind)
 }
 
+/// The tokens behind so many.
+pub(crate) fn after(tokens: &[Token], count: usize) -> &[Token]
+    requires { count ≤ length tokens.now }
+    ensures { result.now ≡ drop count tokens.now }
+{
+    &tokens[count..]
+}
+
 /// The lexemes of these tokens at their places, and the names of their variables.
 pub(crate) fn lexemes(
     alloc: Global,
@@ -33,10 +41,10 @@ pub(crate) fn lexemes(
     while !rest.is_empty() {
         if begins_with_pair(rest) {
             found.push(before.pair(alloc, &rest[0], &rest[1])?)?;
-            rest = &rest[2..];
+            rest = after(rest, 2);
         } else {
             found.push(before.single(alloc, text, &rest[0])?)?;
-            rest = &rest[1..];
+            rest = after(rest, 1);
         }
     }
     Ok((found, before.into_names()))

@@ -1,28 +1,34 @@
-ghost use Rattle.std.specs.Prelude.{◌≡◌, ◌++◌, ◌≤◌, List, [], ◌∷◌, map, take, drop, length, All, Ok, IfOk, IfErr, OnOk, IsOk};
+ghost use Rattle.std.specs.Prelude.{◌≡◌, ◌++◌, ◌≤◌, List, [], ◌∷◌, map, take, drop, length, All, Ok, Some, None, MatchOption, IfOk, IfErr, OnOk, IsOk};
 ghost use Rattle.term_core.specs.Tree.{Tree};
 ghost use Rattle.op_table.specs.Table.{iso_prefix, iso_infix, Table};
 ghost use Rattle.prolog_read.specs.Variables.{Names, IsNumbered};
 ghost use Rattle.prolog_read.specs.Reads.{Reads, is_end, before_end, from_end};
-ghost use Rattle.prolog_read.specs.Clauses.{ReadsClauses, iso, obeyed, by_arguments};
-ghost use Rattle.prolog_read.specs.Outcome.{term_read, clauses_read, term_of, reading_of, read_as, place_of, IsRefusal, Tells};
-ghost use Rattle.prolog_read.specs.Views.{tokens_in, AreTokensOf};
+ghost use Rattle.prolog_read.specs.Clauses.{ReadsClauses, iso, declared, obeyed};
+ghost use Rattle.prolog_read.specs.Outcome.{term_read, clauses_read, term_of, reading_of, read_as, place_of, only_term, clauses, IsRefusal, Tells};
+ghost use Rattle.std.specs.List.{prefix_len};
+ghost use Rattle.prolog_read.specs.Views.{tokens_in, is_inner, AreTokensOf};
 
 use crate::fault::ReadFault;
-use crate::lexemes::lexemes;
+use crate::lexemes::{after, lexemes};
 use op_table::{OpFault, Ops};
 use prolog_grammar::{check, read};
 use prolog_lex::{Token, TokenKind, tokens};
 use std::alloc::Global;
 use term_core::{Memory, Node, ReadTerm, Term};
 
+// Whether a token isn't an end.
+fn is_inner(token: &Token) -> bool
+    ensures { result ≡ is_inner token.now }
+{
+    !matches!(token.kind, TokenKind::End)
+}
+
 // How many tokens stand before the first end.
-fn end_index(tokens: &[Token]) -> usize
-    ensures within { result ≤ length tokens.now }
-    ensures before { tokens_in (take result tokens.now) ≡ before_end (tokens_in tokens.now) }
-    ensures from { tokens_in (drop result tokens.now) ≡ from_end (tokens_in tokens.now) }
+fn inner_len(tokens: &[Token]) -> usize
+    ensures { result ≡ prefix_len is_inner tokens.now }
 {
     for (index, token) in tokens.iter().enumerate() {
-        if token.kind == TokenKind::End {
+        if !is_inner(token) {
             return index;
         }
     }
@@ -74,6 +80,28 @@ fn check_syntax(
     Ok(())
 }
 
+// The one term of these tokens, with an end behind it or none.
+fn only_term(
+    alloc: Global,
+    text: &str,
+    ops: &Ops,
+    tokens: &[Token],
+) -> Result<ReadTerm, ReadFault>
+    requires { AreTokensOf text.now tokens.now }
+    ensures ok { IfOk result (λ r. only_term ops.now text.now (tokens_in tokens.now) ≡ Ok (read_as r)) }
+    ensures err { IfErr result (Tells (only_term ops.now text.now (tokens_in tokens.now))) }
+{
+    let (front, behind) = tokens.split_at(inner_len(tokens));
+    let end = place_of(text, behind);
+    if behind.len() > 1 {
+        check_syntax(alloc, text, ops, front, end)?;
+        return Err(ReadFault::Syntax {
+            at: behind[1].from,
+        });
+    }
+    term_of(alloc, text, ops, front, end)
+}
+
 /// Reads a text that is one term of priority at most 1200, with an end behind it or none, by the operators of a table
 /// (ISO/IEC 13211-1, 6.3).
 ///
@@ -93,39 +121,67 @@ pub fn read_term(alloc: Global, text: &str, ops: &Ops) -> Result<ReadTerm, ReadF
     ensures fault { IfErr result (Tells (term_read ops.now text.now)) }
     ensures refused { IfErr result (λ e. IsRefusal e → (t : Tree) (names : Names) → Reads ops.now text.now t names → ⊥) }
 {
-    let all = tokens(alloc, text)?;
-    let (front, behind) = all.split_at(end_index(&all));
-    let end = place_of(text, behind);
-    if behind.len() > 1 {
-        check_syntax(alloc, text, ops, front, end)?;
-        return Err(ReadFault::Syntax { at: behind[1].from });
-    }
-    term_of(alloc, text, ops, front, end)
+    let tokens = tokens(alloc, text)?;
+    only_term(alloc, text, ops, &tokens)
 }
 
-// The operators that a clause leaves: those of a directive `:- op(P, K, F)` that the table takes are added.
-fn obey(ops: &mut Ops, clause: &Term) -> Result<(), Memory>
-    ensures { OnOk result (ops.new ≡ obeyed clause.now ops.old) }
+// The priority, the kind and the name of a directive `:- op(P, K, F)` of an integer, an atom and an atom.
+fn declared(clause: &Term) -> Option<(i128, &str, &str)>
+    ensures { MatchOption result (declared clause.now ≡ None) (λ d. declared clause.now ≡ Some (d.0, d.1.now, d.2.now)) }
 {
     let nodes = clause.nodes();
     if nodes.len() != 5 {
-        return Ok(());
+        return None;
     }
     let (Node::Comp(neck, 1), Node::Comp(op, 3)) = (&nodes[0], &nodes[1]) else {
-        return Ok(());
+        return None;
     };
     if neck.as_str() != ":-" || op.as_str() != "op" {
-        return Ok(());
+        return None;
     }
-    let (Node::Int(priority), Node::Atom(kind), Node::Atom(name)) =
-        (&nodes[2], &nodes[3], &nodes[4])
-    else {
+    match (&nodes[2], &nodes[3], &nodes[4]) {
+        (Node::Int(priority), Node::Atom(kind), Node::Atom(name)) => {
+            Some((*priority, kind.as_str(), name.as_str()))
+        }
+        _ => None,
+    }
+}
+
+// Adds the operator that a clause declares, where the table takes it.
+fn obey(ops: &mut Ops, clause: &Term) -> Result<(), Memory>
+    ensures { OnOk result (ops.new ≡ obeyed clause.now ops.old) }
+{
+    let Some((priority, kind, name)) = declared(clause) else {
         return Ok(());
     };
-    match ops.add(*priority, kind.as_str(), name.as_str()) {
+    match ops.add(priority, kind, name) {
         Err(OpFault::Memory) => Err(Memory),
         Ok(()) | Err(OpFault::BadPriority | OpFault::BadKind | OpFault::Clash) => Ok(()),
     }
+}
+
+// The terms of these tokens, each with an end.
+fn clauses(alloc: Global, text: &str, tokens: &[Token]) -> Result<Vec<ReadTerm>, ReadFault>
+    requires { AreTokensOf text.now tokens.now }
+    ensures ok { IfOk result (λ v. clauses iso text.now (tokens_in tokens.now) ≡ Ok (map read_as v.items)) }
+    ensures err { IfErr result (Tells (clauses iso text.now (tokens_in tokens.now))) }
+{
+    let mut ops = Ops::iso(alloc)?;
+    let mut found = Vec::new(alloc);
+    let mut rest = tokens;
+    while !rest.is_empty() {
+        let (front, behind) = rest.split_at(inner_len(rest));
+        let end = place_of(text, behind);
+        if behind.is_empty() {
+            check_syntax(alloc, text, &ops, front, end)?;
+            return Err(ReadFault::Syntax { at: end });
+        }
+        let clause = term_of(alloc, text, &ops, front, end)?;
+        obey(&mut ops, &clause.term)?;
+        found.push(clause)?;
+        rest = after(behind, 1);
+    }
+    Ok(found)
 }
 
 /// Reads a text that is terms which each have an end (ISO/IEC 13211-1, 6.2), starting from the operators of the standard's table.
@@ -143,21 +199,6 @@ pub fn read_clauses(alloc: Global, text: &str) -> Result<Vec<ReadTerm>, ReadFaul
     ensures fault { IfErr result (Tells (clauses_read iso text.now)) }
     ensures refused { IfErr result (λ e. IsRefusal e → (xs : List (Tree × Names)) → ReadsClauses iso text.now xs → ⊥) }
 {
-    let all = tokens(alloc, text)?;
-    let mut ops = Ops::iso(alloc)?;
-    let mut clauses = Vec::new(alloc);
-    let mut rest = all.as_slice();
-    while !rest.is_empty() {
-        let (front, behind) = rest.split_at(end_index(rest));
-        let end = place_of(text, behind);
-        if behind.is_empty() {
-            check_syntax(alloc, text, &ops, front, end)?;
-            return Err(ReadFault::Syntax { at: end });
-        }
-        let clause = term_of(alloc, text, &ops, front, end)?;
-        obey(&mut ops, &clause.term)?;
-        clauses.push(clause)?;
-        rest = &behind[1..];
-    }
-    Ok(clauses)
+    let tokens = tokens(alloc, text)?;
+    clauses(alloc, text, &tokens)
 }

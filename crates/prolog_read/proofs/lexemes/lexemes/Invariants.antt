@@ -5,10 +5,10 @@ use Rattle.prolog_read.proofs.lexemes.lexemes.Given as goal
 
 abbrev pub invariant-loop-rest : goal.invariant-loop-rest
 invariant-loop-rest l =
-    (l.found.items ++ placed l.text.now (seen l.before) (tokens_in l.rest.now) ≡ placed l.text.now nothing_before (tokens_in l.fn.tokens.now))
-    × (behind_all l.text.now (seen l.before) (tokens_in l.rest.now) ≡ behind_all l.text.now nothing_before (tokens_in l.fn.tokens.now))
+    (l.found.items ++ placed l.text (seen l.before) (tokens_in l.rest) ≡ placed l.text nothing_before (tokens_in l.fn.tokens))
+    × (behind_all l.text (seen l.before) (tokens_in l.rest) ≡ behind_all l.text nothing_before (tokens_in l.fn.tokens))
     × HasIndex l.before.variables
-    × AreTokensOf l.text.now l.rest.now
+    × AreTokensOf l.text l.rest
 
 abbrev pub decreases-loop-rest : goal.decreases-loop-rest
-decreases-loop-rest l = length l.rest.now
+decreases-loop-rest l = length l.rest
