@@ -3,7 +3,9 @@ use Rattle.std.proofs.Common.{◌≡◌, ℕ, suc, ◌+◌, ◌≤◌, ◌<◌, 
 use Rattle.std.proofs.lemmas.Bool.{and_parts, eqb-true, lt-leb, le-leb, leb-false}
 use Rattle.term_core.specs.Tree.{Tree, variable, integer, atom, compound, Trees, no_trees, tree, tree_list, arity}
 use Rattle.term_core.specs.Parts.{arguments_of}
-use Rattle.request_text.specs.Shapes.{is_atom, is_compound, put_first, elements, cell_elements, at_most}
+use Rattle.builtin_table.specs.Lists as lists
+use Rattle.builtin_table.specs.Lists.{is_list, is_empty_list}
+use Rattle.request_text.specs.Shapes.{is_atom, is_compound, elements, at_most}
 
 length-tree_list : (ts : Trees) → length (tree_list ts) ≡ arity ts
 length-tree_list no_trees = refl
@@ -22,39 +24,49 @@ abbrev pub behind : List Tree → Option (List Tree) → Option (List Tree)
 behind ts None = None
 behind ts (Some us) = Some (ts ++ us)
 
-both : (b : Bool) (o : Option (List Tree)) → (if b then o else o) ≡ o
-both true o = refl
-both false o = refl
+-- one element before these
+abbrev put_first : Tree → Option (List Tree) → Option (List Tree)
+put_first t None = None
+put_first t (Some ts) = Some (t ∷ ts)
 
 abbrev empty_if : Bool → Option (List Tree)
 empty_if b = if b then Some [] else None
 
-pub elements_cell : (t h u : Tree) → is_compound (codes ".") 2 t ≡ true → arguments_of t ≡ h ∷ u ∷ [] → elements t ≡ put_first h (elements u)
-unfolding elements cell_elements
+-- the elements, where `ended` says whether the list is proper
+abbrev if_ended : Bool → List Tree → Option (List Tree)
+if_ended b ts = if b then Some ts else None
+
+put_if : (b : Bool) (t : Tree) (ts : List Tree) → if_ended b (t ∷ ts) ≡ put_first t (if_ended b ts)
+put_if true t ts = refl
+put_if false t ts = refl
+
+no_end : (b : Bool) (g : List ℕ) (ts : Trees) (us : List Tree) → if_ended (is_empty_list (if b then compound g ts else compound g ts)) us ≡ None
+no_end true g ts us = refl
+no_end false g ts us = refl
+
+elements_cell : (t h u : Tree) → is_compound (codes ".") 2 t ≡ true → arguments_of t ≡ h ∷ u ∷ [] → elements t ≡ put_first h (elements u)
+unfolding lists.elements lists.elements_of_cell lists.rest lists.rest_of_cell
 elements_cell (variable n) h u k e = cc
 elements_cell (integer z) h u k e = cc
 elements_cell (atom g) h u k e = cc
 elements_cell (compound g no_trees) h u k e = cc
 elements_cell (compound g (tree a no_trees)) h u k e = cc
 elements_cell (compound g (tree a (tree b (tree c cs)))) h u k e = cc
-elements_cell (compound g (tree a (tree b no_trees))) h u k e = rw (k, ap first e, ap second e) refl
+elements_cell (compound g (tree a (tree b no_trees))) h u k e = rw k (put_if (is_list b) a (lists.elements b)) ∙ ap first e
   where
-    first : List Tree → Tree
-    first [] = a
-    first (x ∷ xs) = x
+    first : List Tree → Option (List Tree)
+    first [] = None
+    first (x ∷ []) = None
+    first (x ∷ y ∷ xs) = put_first x (elements y)
 
-    second : List Tree → Tree
-    second (x ∷ y ∷ xs) = y
-    second xs = b
-
-pub elements_other : (t : Tree) → is_compound (codes ".") 2 t ≡ false → elements t ≡ (if is_atom (codes "[]") t then Some [] else None)
-unfolding elements cell_elements
+elements_other : (t : Tree) → is_compound (codes ".") 2 t ≡ false → elements t ≡ empty_if (is_atom (codes "[]") t)
+unfolding lists.elements lists.elements_of_cell lists.rest lists.rest_of_cell
 elements_other (variable n) k = refl
 elements_other (integer z) k = refl
 elements_other (atom g) k = refl
-elements_other (compound g no_trees) k = both (bytes_eq g (codes ".")) None
-elements_other (compound g (tree a no_trees)) k = both (bytes_eq g (codes ".")) None
-elements_other (compound g (tree a (tree b (tree c cs)))) k = both (bytes_eq g (codes ".")) None
+elements_other (compound g no_trees) k = no_end (bytes_eq g (codes ".")) g no_trees _
+elements_other (compound g (tree a no_trees)) k = no_end (bytes_eq g (codes ".")) g (tree a no_trees) _
+elements_other (compound g (tree a (tree b (tree c cs)))) k = no_end (bytes_eq g (codes ".")) g (tree a (tree b (tree c cs))) _
 elements_other (compound g (tree a (tree b no_trees))) k = rw k refl
 
 behind_more : (ts : List Tree) (h : Tree) (o : Option (List Tree)) → behind ts (put_first h o) ≡ behind (ts ++ h ∷ []) o

@@ -1,6 +1,8 @@
 -- Terms by their shape.
 use Rattle.std.specs.Prelude.{ℕ, Bool, true, false, ◌&&◌, ◌==◌, nat_le, length, pos, List, [], ◌∷◌, Option, Some, None, if◌then◌else◌, codes, bytes_eq}
-use Rattle.term_core.specs.Tree.{Tree, integer, atom, compound, Trees, no_trees, tree, arity}
+use Rattle.term_core.specs.Tree.{Tree, integer, atom, compound, arity}
+use Rattle.builtin_table.specs.Lists as lists
+use Rattle.builtin_table.specs.Lists.{is_list}
 
 abbrev pub is_atom : List ℕ → Tree → Bool
 is_atom f (atom g) = bytes_eq g f
@@ -20,21 +22,9 @@ number_up_to greatest t = None
 abbrev pub flag_of : Tree → Option Bool
 flag_of t = if is_atom (codes "true") t then Some true else if is_atom (codes "false") t then Some false else None
 
-abbrev pub put_first : Tree → Option (List Tree) → Option (List Tree)
-put_first t None = None
-put_first t (Some ts) = Some (t ∷ ts)
-
 -- the elements of a proper list (ISO 13211-1, 6.3.5)
-unfoldable mutual
-  pub elements : Tree → Option (List Tree)
-  elements (atom f) = if bytes_eq f (codes "[]") then Some [] else None
-  elements (compound f ts) = if bytes_eq f (codes ".") then cell_elements ts else None
-  elements t = None
-
-  -- of a cell with these arguments
-  pub cell_elements : Trees → Option (List Tree)
-  cell_elements (tree t (tree u no_trees)) = put_first t (elements u)
-  cell_elements ts = None
+abbrev pub elements : Tree → Option (List Tree)
+elements t = if is_list t then Some (lists.elements t) else None
 
 -- where there are at most so many
 abbrev pub at_most : ℕ → Option (List Tree) → Option (List Tree)
