@@ -1,8 +1,8 @@
 mod Agree
-mod Complete
+pub mod Complete
 mod Found
-mod Sound
+pub mod Sound
 mod Steps
 mod Tokens
 mod Turning
-mod Viable
+pub mod Viable

@@ -7,7 +7,7 @@ use Rattle.std.specs.Cmp.Lexicographic.{bytes_decides}
 use Rattle.prolog_read.specs.Variables.{lookup}
 
 -- a new name behind those so far
-lookup-push : (v w : List ℕ) (n : ℕ) (ps : List (List ℕ × ℕ)) → lookup w ps ≡ None → lookup v (ps ++ (w, n) ∷ []) ≡ cond (bytes_eq w v) (Some n) (lookup v ps)
+pub lookup-push : (v w : List ℕ) (n : ℕ) (ps : List (List ℕ × ℕ)) → lookup w ps ≡ None → lookup v (ps ++ (w, n) ∷ []) ≡ cond (bytes_eq w v) (Some n) (lookup v ps)
 lookup-push v w n [] h = refl
 lookup-push v w n (p ∷ ps) h = by (bytes_eq p.0 w) (bytes_eq p.0 v) refl refl h (lookup-push v w n ps)
   where

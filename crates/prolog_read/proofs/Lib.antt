@@ -1,4 +1,7 @@
+pub mod Exact
 pub mod Faults
 pub mod Indexing
+pub mod Limits
+pub mod Numbering
 pub mod Placing
 pub mod Sentences

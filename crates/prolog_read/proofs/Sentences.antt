@@ -38,7 +38,6 @@ abbrev pub after : List ReadAs → Result (List ReadAs) ReadFault → Result (Li
 after xs (Ok ys) = Ok (xs ++ ys)
 after xs (Err e) = Err e
 
-
 -- the sentences of tokens without an end
 pub none_ended : (ts : List lex.Token) → from_end ts ≡ [] → sentences ts ≡ ([], ts)
 none_ended [] e = refl

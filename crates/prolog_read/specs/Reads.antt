@@ -1,5 +1,5 @@
 -- What a text reads as (ISO 13211-1, 6.2 and 6.3).
-use Rattle.std.specs.Prelude.{◌≡◌, ℕ, ◌≤◌, Bool, true, false, ℤ, pos, neg_ℤ, int_le, ◌-◌, ◌^◌, ◌&&◌, List, [], ◌∷◌, length, map, All, Ok, if◌then◌else◌, codes, Result, Err, Option, Some, None}
+use Rattle.std.specs.Prelude.{◌≡◌, ℕ, ◌≤◌, Bool, true, false, ℤ, pos, negsuc, nat_lt, ◌^◌, List, [], ◌∷◌, length, map, All, Ok, if◌then◌else◌, codes, Result, Err, Option, Some, None}
 use Rattle.std.specs.List.{list_all}
 use Rattle.term_core.specs.Tokens.{Kind, end_token, Token}
 use Rattle.term_core.specs.Tree.{Tree}
@@ -40,9 +40,13 @@ from_end (t ∷ ts) = if is_end t.kind then t ∷ ts else from_end ts
 
 -- ---- a term
 
--- an integer is -2^127 to 2^127 - 1
+-- an integer is -2^127 to 2^127 - 1; that of negsuc n is -(n + 1)
+abbrev pub in_range : ℤ → Bool
+in_range (pos n) = nat_lt n (2 ^ 127)
+in_range (negsuc n) = nat_lt n (2 ^ 127)
+
 abbrev pub has_range : Node → Bool
-has_range (Int z) = int_le (neg_ℤ (pos (2 ^ 127))) z && int_le z (pos (2 ^ 127 - 1))
+has_range (Int z) = in_range z
 has_range _ = true
 
 -- at most 4,000 brackets are open

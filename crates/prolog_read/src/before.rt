@@ -101,12 +101,7 @@ impl Before {
     }
 
     // The lexeme of a token that stands for this.
-    fn lexeme(
-        &mut self,
-        alloc: Global,
-        token: &Token,
-        value: TokenValue,
-    ) -> Result<Lexeme, Memory>
+    fn lexeme(&mut self, alloc: Global, token: &Token, value: TokenValue) -> Result<Lexeme, Memory>
         requires { HasIndex self.old.variables }
         ensures lexeme { IfOk result (λ l. l ≡ lexeme (kind_of token.now.kind) (value_of value) (spec.is_direct (seen self.old) (token_of token.now)) (seen self.old).variables) }
         ensures after { OnOk result (seen self.new ≡ record (seen self.old) { variables = spec.variables_behind (value_of value) (seen self.old).variables }) }

@@ -81,12 +81,7 @@ fn check_syntax(
 }
 
 // The one term of these tokens, with an end behind it or none.
-fn only_term(
-    alloc: Global,
-    text: &str,
-    ops: &Ops,
-    tokens: &[Token],
-) -> Result<ReadTerm, ReadFault>
+fn only_term(alloc: Global, text: &str, ops: &Ops, tokens: &[Token]) -> Result<ReadTerm, ReadFault>
     requires { AreTokensOf text.now tokens.now }
     ensures ok { IfOk result (λ r. only_term ops.now text.now (tokens_in tokens.now) ≡ Ok (read_as r)) }
     ensures err { IfErr result (Tells (only_term ops.now text.now (tokens_in tokens.now))) }
@@ -95,9 +90,7 @@ fn only_term(
     let end = place_of(text, behind);
     if behind.len() > 1 {
         check_syntax(alloc, text, ops, front, end)?;
-        return Err(ReadFault::Syntax {
-            at: behind[1].from,
-        });
+        return Err(ReadFault::Syntax { at: behind[1].from });
     }
     term_of(alloc, text, ops, front, end)
 }

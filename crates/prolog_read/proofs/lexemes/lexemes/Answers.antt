@@ -15,7 +15,7 @@ loop-rest-preserved-then-begins_with_pair c =
     let h = sym c.begins_with_pair.ensures ∙ c.if-begins_with_pair.true in
     rw (c.after-rest.ensures, c.in_ok-pair.ensures.after) (
       pushed c.loop-rest.found.items c.push.new.self.items _ _ (c.in_ok-push.ensures.items ∙ ap (λ p. c.loop-rest.found.items ++ p ∷ _) c.in_ok-pair.ensures.placed)
-      ∙ ap (λ ps. c.loop-rest.found.items ++ ps) (sym (placed_pair text before rest _ h)) ∙ i.0,
+          ∙ ap (λ ps. c.loop-rest.found.items ++ ps) (sym (placed_pair text before rest _ h)) ∙ i.0,
       sym (behind_all_pair text before rest _ h) ∙ i.1,
       c.in_ok-pair.ensures.index,
       All-drop (IsTokenOf text) 2 rest i.3,
@@ -31,7 +31,7 @@ loop-rest-preserved c =
     let some : 0 < length rest = grind (arith, c.loop-rest-test.true, c.is_empty.ensures) in
     rw (c.after-rest-else-begins_with_pair.ensures, c.in_ok-single.ensures.after) (
       pushed c.loop-rest.found.items c.push-else-begins_with_pair.new.self.items _ _ (c.in_ok-push-2.ensures.items ∙ ap (λ p. c.loop-rest.found.items ++ p ∷ _) c.in_ok-single.ensures.placed)
-      ∙ ap (λ ps. c.loop-rest.found.items ++ ps) (sym (placed_single text before rest _ some h)) ∙ i.0,
+          ∙ ap (λ ps. c.loop-rest.found.items ++ ps) (sym (placed_single text before rest _ some h)) ∙ i.0,
       sym (behind_all_single text before rest _ some h) ∙ i.1,
       c.in_ok-single.ensures.index,
       All-drop (IsTokenOf text) 1 rest i.3,

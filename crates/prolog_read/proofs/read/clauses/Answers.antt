@@ -43,6 +43,6 @@ loop-rest-preserved c =
     let end = ap (λ at. term_of c.loop-rest.ops text at (tokens_in c.split_at.result.0.now)) (sym c.place_of-end.ensures) ∙ c.in_ok-clause.ensures.ok in
     rw (c.after-rest.ensures, c.in_ok-obey.ensures, c.in_ok-push.ensures.items, map-append read_as c.loop-rest.found.items (c.in_ok-clause.clause ∷ [])) (
       c.loop-rest.invariant.0
-      ∙ clause_read c.loop-rest.ops text c.loop-rest.rest.now _ _ _ c.inner_len.ensures c.split_at.ensures.front c.split_at.ensures.back some (read_as c.in_ok-clause.clause) end (map read_as c.loop-rest.found.items),
+          ∙ clause_read c.loop-rest.ops text c.loop-rest.rest.now _ _ _ c.inner_len.ensures c.split_at.ensures.front c.split_at.ensures.back some (read_as c.in_ok-clause.clause) end (map read_as c.loop-rest.found.items),
       All-drop (IsTokenOf text) 1 c.split_at.result.1.now all,
     )
