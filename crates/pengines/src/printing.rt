@@ -3,7 +3,7 @@ ghost use Rattle.std.specs.Prelude.{◌≡◌, [], ◌∷◌, IfOk, MatchOption}
 ghost use Rattle.event_core.specs.Full.{at};
 ghost use Rattle.event_core.specs.Standing.{spec_of};
 ghost use Rattle.request_text.specs.Kept.{script_read};
-ghost use Rattle.request_text.specs.Lines.{sent_step, script_lines, run_clauses};
+ghost use Rattle.request_text.specs.Lines.{sent_step, script_lines};
 
 use event_core::{Event, Pengine, line};
 use request_text::{Script, Sent};
@@ -11,15 +11,6 @@ use std::alloc::Global;
 use std::collections::VecDeque;
 use std::marker::Model;
 use term_core::{List, Memory};
-
-// TEMP
-fn runs(alloc: Global, program: program::Program) -> Result<solve_model::Program, Memory>
-    ensures { IfOk result (λ p. p ≡ run_clauses program) }
-{
-    let _ = alloc;
-    let _ = program;
-    Err(Memory)
-}
 
 /// The events that what is sent brings, up to the next rest.
 fn send(alloc: Global, pengine: &mut Pengine, sent: Sent) -> Result<List<Event>, Memory>
@@ -65,7 +56,7 @@ impl Printing {
         let mut waiting = VecDeque::new(alloc);
         waiting.push_back(Event::Create)?;
         Ok(Printing {
-            pengine: Pengine::new(runs(alloc, program)?, settings),
+            pengine: Pengine::new(program, settings),
             lines: VecDeque::from(lines.into_vec()),
             waiting,
         })

@@ -7,7 +7,7 @@ use Rattle.event_core.specs.Standing.{spec_of}
 use Rattle.request_text.specs.declared.sent.Sent.{Sent}
 use Rattle.request_text.specs.declared.sent.Sent.TheVariants.{Request, Abort, Destroy}
 use Rattle.request_text.specs.Spelled.{Script}
-use Rattle.request_text.specs.Lines.{sent_step, sent_brings, late, lines_with_late, script_lines, lines_left, run_clauses}
+use Rattle.request_text.specs.Lines.{sent_step, sent_brings, late, lines_with_late, script_lines, lines_left}
 use Rattle.request_text.proofs.Acts.{full_is_sent}
 
 -- after the end nothing is brought
@@ -29,7 +29,7 @@ lines_left-step spec s ss (In q g) h = refl
 lines_left-step spec s ss Closed h = absurd (h refl)
 
 -- all of them
-pub lines_left-script : (s : Script) → lines_left (spec_of (run_clauses s.program) s.settings) (Create ∷ []) s.lines Free ≡ script_lines s
+pub lines_left-script : (s : Script) → lines_left (spec_of s.program s.settings) (Create ∷ []) s.lines Free ≡ script_lines s
 lines_left-script s =
-    let spec : Spec = spec_of (run_clauses s.program) s.settings in
+    let spec : Spec = spec_of s.program s.settings in
     ap (λ es. lines_with_late es (late spec s.lines Free)) (sym (full_is_sent spec s.lines))

@@ -12,7 +12,7 @@ use Rattle.program.specs.declared.fault.ProgFault.{ProgFault}
 use Rattle.program.specs.declared.fault.ProgFault.TheVariants as program
 use Rattle.program.specs.Clauses.{Clause}
 use Rattle.program.specs.Source.{IsNumbered, trees_read, first_fault, clauses_in, program_of, Tells}
-use Rattle.builtin_table.specs.Rows.{reserved}
+use Rattle.builtin_table.specs.Table.{standard, reserved_of}
 use Rattle.request_text.specs.declared.fault.SpecFault.TheVariants as spec
 use Rattle.request_text.specs.Kept.{clause_fault}
 use Rattle.request_text.specs.Spelled.{program_in, program_from, program_checked}
@@ -31,7 +31,7 @@ all_numbered rs h = All-map IsNumbered (λ r. r.term) rs (λ k d lt. numbered (g
 
 -- ---- programs
 
-module _ (text : List ℕ) (rs : List ReadTerm) (read : clauses_read iso text ≡ Ok (map read_as rs)) (kept : List Pi) (same : kept ≡ reserved) where
+module _ (text : List ℕ) (rs : List ReadTerm) (read : clauses_read iso text ≡ Ok (map read_as rs)) (kept : List Pi) (same : kept ≡ reserved_of standard) where
   trees_are : (xs : List ReadTerm) → map (λ x. x.0) (map read_as xs) ≡ trees_read xs
   trees_are [] = refl
   trees_are (x ∷ xs) = ap (λ ts. x.term ∷ ts) (trees_are xs)
@@ -39,7 +39,7 @@ module _ (text : List ℕ) (rs : List ReadTerm) (read : clauses_read iso text �
   checked : (f : Option ProgFault) → first_fault kept 1 (trees_read rs) ≡ f → program_in text ≡ program_checked f (trees_read rs)
   checked f e =
       ap program_from read
-      ∙ ap (λ ts. program_checked (first_fault reserved 1 ts) ts) (trees_are rs)
+      ∙ ap (λ ts. program_checked (first_fault (reserved_of standard) 1 ts) ts) (trees_are rs)
       ∙ ap (λ k. program_checked (first_fault k 1 (trees_read rs)) (trees_read rs)) (sym same)
       ∙ ap (λ g. program_checked g (trees_read rs)) e
 

@@ -8,12 +8,6 @@ use Rattle.event_core.specs.Texts.{argument}
 use Rattle.request_text.specs.declared.sent.Sent.{Sent}
 use Rattle.request_text.specs.declared.sent.Sent.TheVariants.{Request, Abort, Destroy}
 use Rattle.request_text.specs.Spelled.{Script}
-use Rattle.solve_model.specs.Run.{Clause as RunClause}
-use Rattle.program.specs.Clauses.{Clause}
-
--- TEMP
-abbrev pub run_clauses : List Clause → List RunClause
-run_clauses cs = map (λ c. record { head = c.head; body = c.body; vars = c.vars }) cs
 
 -- what is sent does to a pengine that rests: where it rests then, and the events on the way
 abbrev pub sent_step : Spec → Sent → Place → Reading
@@ -67,7 +61,7 @@ lines_with_late events ss = map (line_of argument) events ++ map (λ s. codes "e
 -- The lines of all events of a pengine over the script's program, to which its requests are sent, each when the former is done (Lager and Wielemaker, TPLP 2014).
 abbrev pub script_lines : Script → List (List ℕ)
 script_lines s =
-    let spec : Spec = spec_of (run_clauses s.program) s.settings in
+    let spec : Spec = spec_of s.program s.settings in
     lines_with_late (full spec (acts spec s.lines)) (late spec s.lines Free)
 
 -- the events that are brought, one after the other, from a place of rest

@@ -13,7 +13,7 @@ use Rattle.prolog_read.specs.Outcome.{ReadAs, term_read, clauses_read}
 use Rattle.program.specs.declared.fault.ProgFault.{ProgFault}
 use Rattle.program.specs.Clauses.{Clause}
 use Rattle.program.specs.Source.{first_fault, clauses_in, program_of}
-use Rattle.builtin_table.specs.Rows.{reserved}
+use Rattle.builtin_table.specs.Table.{standard, reserved_of}
 use Rattle.event_core.specs.declared.settings.Settings.{Settings}
 use Rattle.event_core.specs.declared.settings.TheConstants.Settings.{DEFAULT}
 use Rattle.request_text.specs.declared.fault.RequestFault.{RequestFault}
@@ -148,7 +148,7 @@ program_checked (Some f) ts = Err (ClauseFault f)
 abbrev pub program_from : Result (List ReadAs) ReadFault → Result (List Clause) SpecFault
 program_from (Ok xs) =
     let ts : List Tree = map (λ x. x.0) xs in
-    program_checked (first_fault reserved 1 ts) ts
+    program_checked (first_fault (reserved_of standard) 1 ts) ts
 program_from (Err e) = Err (Source e)
 
 -- the program that a source text spells; there is no library

@@ -4,7 +4,7 @@ use Rattle.event_core.specs.Full.{Free}
 use Rattle.event_core.specs.Pengines.{Standing}
 use Rattle.event_core.specs.Standing.{spec_of}
 use Rattle.request_text.specs.Kept.{script_read}
-use Rattle.request_text.specs.Lines.{lines_left, run_clauses}
+use Rattle.request_text.specs.Lines.{lines_left}
 use Rattle.request_text.proofs.Printed.{lines_left-script}
 use Rattle.pengines.proofs.printing.Printing.new.Goals as goal
 
@@ -12,7 +12,7 @@ pub returns : goal.returns
 returns c =
     let script = script_read c.args.script in
     let sent = c.from.result.items in
-    let made : Standing = record { clauses = run_clauses script.program; settings = script.settings; place = Free } in
+    let made : Standing = record { clauses = script.program; settings = script.settings; place = Free } in
     let waiting : c.push_back.new.self.items ≡ Create ∷ [] = search rules in
     let all : sent ≡ script.lines = search rules in
     let standing : c.new.result ≡ made = search rules in
