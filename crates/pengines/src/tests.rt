@@ -55,7 +55,7 @@ const REFUSED: Case = Case {
     ..DONE
 };
 
-const CASES: [Case; 45] = [
+const CASES: [Case; 53] = [
     DONE,
     Case {
         name: "rules",
@@ -181,6 +181,54 @@ const CASES: [Case; 45] = [
         name: "nothing",
         input: b"",
         written: b"create\n",
+        ..DONE
+    },
+    Case {
+        name: "a term that would hold itself",
+        input: b"---\nask(X=f(X))\n",
+        written: b"create\nfailure\ndestroy\n",
+        ..DONE
+    },
+    Case {
+        name: "a cut inside of a call",
+        input: b"t(1). t(2).\n---\nask((t(X),call(!),X>1))\n",
+        written: b"create\nsuccess([(t(2),call(!),2>1)],false)\ndestroy\n",
+        ..DONE
+    },
+    Case {
+        name: "a ball behind a catch that was left",
+        input: b"m(1). m(2).\n---\nask((catch(m(X),_,true),X>1,throw(t)))\n",
+        written: b"create\nerror(t)\ndestroy\n",
+        ..DONE
+    },
+    Case {
+        name: "a ball behind an open chunk",
+        input: b"q(1). q(2). q(_) :- throw(oops).\n---\nask(q(X),[chunk(5)])\nnext\n",
+        written: b"create\nsuccess([q(1),q(2)],true)\nerror(oops)\ndestroy\n",
+        ..DONE
+    },
+    Case {
+        name: "goals that are none",
+        input: b"---\ncreate([destroy(false)])\nask(X)\nask(call((a,1)))\n",
+        written: b"create\nerror(error(instantiation_error,none))\nerror(error(type_error(callable,(a,1)),none))\n",
+        ..DONE
+    },
+    Case {
+        name: "quotients",
+        input: b"---\nask((A is -7 // 2,B is -7 mod 2,C is -7 rem 2,D is -7 div 2,E is 6 / 2),[template([A,B,C,D,E])])\n",
+        written: b"create\nsuccess([[-3,1,-1,-4,3]],false)\ndestroy\n",
+        ..DONE
+    },
+    Case {
+        name: "integers that are too large",
+        input: b"---\ncreate([destroy(false)])\nask(X is 170141183460469231731687303715884105727+1)\nask(X is 1 << 127)\n",
+        written: b"create\nerror(error(evaluation_error(int_overflow),(is)/2))\nerror(error(evaluation_error(int_overflow),(is)/2))\n",
+        ..DONE
+    },
+    Case {
+        name: "what has no value",
+        input: b"---\ncreate([destroy(false)])\nask(X is 7 / 2)\nask(X is 5 // 0)\nask(X is a + 1)\n",
+        written: b"create\nerror(error(evaluation_error(undefined),(is)/2))\nerror(error(evaluation_error(zero_divisor),(is)/2))\nerror(error(type_error(evaluable,a/0),(is)/2))\n",
         ..DONE
     },
     Case {
