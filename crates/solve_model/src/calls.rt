@@ -117,7 +117,6 @@ pub(crate) fn choose(
     let Some(first) = next_match(alloc, clauses, &choice.goal, &choice.place, choice.from)? else {
         return Ok(Now::Ends(End::Failed));
     };
-    stack.work.spend_all(&first.subst)?;
     match next_match(alloc, clauses, &choice.goal, &choice.place, first.at + 1)? {
         None => {
             let Choice {
@@ -126,10 +125,12 @@ pub(crate) fn choose(
                 more,
                 ..
             } = choice;
+            stack.work.spend_new(&place.subst, &first.subst)?;
             let branch = body_branch(alloc, first.clause, items, &place, more, first.subst)?;
             Ok(Now::Runs(branch, more))
         }
         Some(second) => {
+            stack.work.spend_all(&first.subst)?;
             let items = copied_items(alloc, &choice.items, &mut stack.work)?;
             let branch = body_branch(
                 alloc,
@@ -158,7 +159,6 @@ pub(crate) fn take_result(
 ) -> Result<Now, Memory>
     ensures { IfOk result (λ n. (w : World) (u : Used) → Leaves w stack.old stack.new n u (taken_results w found results u)) }
 {
-    stack.work.spend_all(&found.subst)?;
     let Results {
         mut offers,
         items,
@@ -167,10 +167,12 @@ pub(crate) fn take_result(
     } = results;
     match next_result(alloc, &mut offers, &place)? {
         None => {
+            stack.work.spend_new(&place.subst, &found.subst)?;
             let branch = found_branch(found, items, place.level);
             Ok(Now::Runs(branch, more))
         }
         Some(next) => {
+            stack.work.spend_all(&found.subst)?;
             let copies = copied_items(alloc, &items, &mut stack.work)?;
             let branch = found_branch(found, copies, place.level);
             let others = Results {

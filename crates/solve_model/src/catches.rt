@@ -151,7 +151,7 @@ pub(crate) fn recover(
         let level = catcher_of(&items);
         return Ok(Now::Ends(End::Thrown(ball, level)));
     };
-    stack.work.spend_all(&found.subst)?;
+    stack.work.spend_new(&place.subst, &found.subst)?;
     let recovery = recovery.apply(alloc, &found.subst)?;
     stack.work.spend(&recovery)?;
     let ready = make_ready(alloc, recovery)?;

@@ -141,6 +141,7 @@ fn fail_later(
         Leaves w stack.old stack.new n u (differs (runs w) (Some subst) context.scope.level context.scope.more (items_of context.rest.items.items) (place_of context.rest.place) context.more u)) }
 {
     let Context { scope, rest, more } = context;
+    stack.work.spend_all(&subst)?;
     let level = rest.place.level;
     let place = Place {
         subst,

@@ -1,6 +1,6 @@
 use term_core::{Memory, Subst, Term};
 
-/// How much one query writes at most into the substitutions that its steps make, the goals that it takes apart and the items that it copies for its alternatives: a term counts as its nodes and four more.
+/// How much one query writes at most into the terms that its steps bind, the goals that it takes apart, and what it copies for its alternatives: a term counts as its nodes and four more. Where no alternative is left, only the terms count that a step makes or changes.
 ///
 /// A query that would write more wants memory. So terms that double at each step are given up soon, whatever the limit of steps, and what a query holds stays under 1 GiB.
 pub const MAX_WORK: u64 = 10_000_000;
@@ -32,6 +32,17 @@ impl Work {
     pub(crate) fn spend_all(&mut self, subst: &Subst) -> Result<(), Memory> {
         for pair in subst.pairs() {
             self.spend(&pair.1)?;
+        }
+        Ok(())
+    }
+
+    // Counts the terms of a substitution that another in its place doesn't have.
+    pub(crate) fn spend_new(&mut self, old: &Subst, new: &Subst) -> Result<(), Memory> {
+        let before = old.pairs();
+        for (i, pair) in new.pairs().iter().enumerate() {
+            if i >= before.len() || !Term::cmp(&before[i].1, &pair.1).is_eq() {
+                self.spend(&pair.1)?;
+            }
         }
         Ok(())
     }
