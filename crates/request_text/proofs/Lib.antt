@@ -1,4 +1,5 @@
 pub mod Acts
+pub mod LinePlaces
 pub mod LineStarts
 pub mod OptionLists
 pub mod Printed

@@ -2,6 +2,7 @@
 #![tactic(auto)]
 
 mod fault;
+mod laws;
 mod options;
 mod parts;
 mod requests;
@@ -10,6 +11,7 @@ mod sent;
 mod shapes;
 
 pub use fault::{RequestFault, ScriptFault, SpecFault, place_of};
+pub use laws::{lines_keep_their_places, scripts_are_parted};
 pub use requests::read_request;
 pub use script::{Script, read_script};
 pub use sent::Sent;
