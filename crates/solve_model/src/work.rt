@@ -1,3 +1,4 @@
+use crate::bindings::Bindings;
 use term_core::{Memory, Subst, Term};
 
 /// How much one query writes at most into the terms that its steps bind, the goals that it takes apart, and what it copies for its alternatives: a term counts as its nodes and four more. Where no alternative is left, only the terms count that a step makes or changes.
@@ -29,7 +30,7 @@ impl Work {
     }
 
     // Counts the writing of a substitution's terms.
-    pub(crate) fn spend_all(&mut self, subst: &Subst) -> Result<(), Memory> {
+    fn spend_all(&mut self, subst: &Subst) -> Result<(), Memory> {
         for pair in subst.pairs() {
             self.spend(&pair.1)?;
         }
@@ -37,7 +38,7 @@ impl Work {
     }
 
     // Counts the terms of a substitution that another in its place doesn't have.
-    pub(crate) fn spend_new(&mut self, old: &Subst, new: &Subst) -> Result<(), Memory> {
+    fn spend_new(&mut self, old: &Subst, new: &Subst) -> Result<(), Memory> {
         let before = old.pairs();
         for (i, pair) in new.pairs().iter().enumerate() {
             if i >= before.len() || !Term::cmp(&before[i].1, &pair.1).is_eq() {
@@ -45,5 +46,21 @@ impl Work {
             }
         }
         Ok(())
+    }
+
+    // Counts a step from a substitution to another. Where the old one is kept, beside the new one or by others, all of the new one counts.
+    pub(crate) fn spend_step(
+        &mut self,
+        old: &Bindings,
+        new: &Bindings,
+        is_kept: bool,
+    ) -> Result<(), Memory> {
+        if new.is_same(old) {
+            Ok(())
+        } else if is_kept || old.is_shared() {
+            self.spend_all(new.subst())
+        } else {
+            self.spend_new(old.subst(), new.subst())
+        }
     }
 }
