@@ -16,6 +16,7 @@ enum Part {
 use Part::{A, F, N, X};
 
 const MIN: i128 = i128::MIN;
+
 const MAX: i128 = i128::MAX;
 
 fn compound(alloc: Global, name: &str, args: &[Term]) -> Result<Term, Memory> {
@@ -48,6 +49,10 @@ fn terms(alloc: Global, parts: &[Part]) -> Result<Vec<Term>, Memory> {
 
 fn term(alloc: Global, parts: &[Part]) -> Result<Term, Memory> {
     terms(alloc, parts)?.pop().ok_or(Memory)
+}
+
+fn is_same(alloc: Global, found: &Term, wanted: &[Part]) -> Result<bool, Memory> {
+    Ok(Term::cmp(found, &term(alloc, wanted)?).is_eq())
 }
 
 // A result as a term: the number of its new variables and its pairs.
@@ -85,7 +90,7 @@ fn gives(alloc: Global, name: &str, args: &[Part], wanted: &[Part]) -> Result<bo
     let mut args = terms(alloc, args)?;
     args.reverse();
     let found = shown(alloc, call(alloc, name, &args, 10)?)?;
-    Ok(Term::cmp(&found, &term(alloc, wanted)?).is_eq())
+    is_same(alloc, &found, wanted)
 }
 
 // The value of a functor of two integers, or the fault.
@@ -147,16 +152,21 @@ fn value_is(alloc: Global, row: (&str, i128, i128, Wanted)) -> Result<bool, Memo
     let expression = compound(alloc, name, &args)?;
     let goal = vec![in alloc; Term::var(alloc, 0)?, expression]?;
     let found = shown(alloc, call(alloc, "is", &goal, 10)?)?;
-    let wanted = match wanted {
-        Is(value) => term(alloc, &[F("one", 3), N(0), X(0), N(value)])?,
+    match wanted {
+        Is(value) => is_same(alloc, &found, &[F("one", 3), N(0), X(0), N(value)]),
         Wrong(word) => {
             let parts = [
-                F("ball", 1), F("error", 2), F("evaluation_error", 1), A(word), F("/", 2), A("is"), N(2),
+                F("ball", 1),
+                F("error", 2),
+                F("evaluation_error", 1),
+                A(word),
+                F("/", 2),
+                A("is"),
+                N(2),
             ];
-            term(alloc, &parts)?
+            is_same(alloc, &found, &parts)
         }
-    };
-    Ok(Term::cmp(&found, &wanted).is_eq())
+    }
 }
 
 #[test]
@@ -171,18 +181,60 @@ fn expressions_have_the_values_of_the_standard(rt: HostRuntime) -> Result<(), Fa
 // What a goal of this name gives for these arguments.
 const ROWS: [(&str, &[Part], &[Part]); 70] = [
     ("=", &[X(0), A("a")], &[F("one", 3), N(0), X(0), A("a")]),
-    ("unify_with_occurs_check", &[X(0), F("f", 1), X(0)], &[F("one", 3), N(0), X(0), F("f", 1), X(0)]),
-    ("==", &[F("f", 1), X(0), F("f", 1), X(0)], &[F("one", 1), N(0)]),
+    (
+        "unify_with_occurs_check",
+        &[X(0), F("f", 1), X(0)],
+        &[F("one", 3), N(0), X(0), F("f", 1), X(0)],
+    ),
+    (
+        "==",
+        &[F("f", 1), X(0), F("f", 1), X(0)],
+        &[F("one", 1), N(0)],
+    ),
     ("\\==", &[X(0), X(0)], &[A("no")]),
     ("@<", &[X(3), N(-5)], &[F("one", 1), N(0)]),
     ("@<", &[A("b"), A("ab")], &[A("no")]),
     ("@=<", &[A("a"), A("a")], &[F("one", 1), N(0)]),
     ("@>", &[A("a"), N(9)], &[F("one", 1), N(0)]),
     ("@>=", &[F("f", 1), X(0), A("zzz")], &[F("one", 1), N(0)]),
-    ("compare", &[X(0), N(1), N(1)], &[F("one", 3), N(0), X(0), A("=")]),
-    ("compare", &[A("<"), N(2), N(1)], &[F("one", 3), N(0), A("<"), A(">")]),
-    ("compare", &[N(3), N(1), N(1)], &[F("ball", 1), F("error", 2), F("type_error", 2), A("atom"), N(3), F("/", 2), A("compare"), N(3)]),
-    ("compare", &[A("a"), N(1), N(1)], &[F("ball", 1), F("error", 2), F("domain_error", 2), A("order"), A("a"), F("/", 2), A("compare"), N(3)]),
+    (
+        "compare",
+        &[X(0), N(1), N(1)],
+        &[F("one", 3), N(0), X(0), A("=")],
+    ),
+    (
+        "compare",
+        &[A("<"), N(2), N(1)],
+        &[F("one", 3), N(0), A("<"), A(">")],
+    ),
+    (
+        "compare",
+        &[N(3), N(1), N(1)],
+        &[
+            F("ball", 1),
+            F("error", 2),
+            F("type_error", 2),
+            A("atom"),
+            N(3),
+            F("/", 2),
+            A("compare"),
+            N(3),
+        ],
+    ),
+    (
+        "compare",
+        &[A("a"), N(1), N(1)],
+        &[
+            F("ball", 1),
+            F("error", 2),
+            F("domain_error", 2),
+            A("order"),
+            A("a"),
+            F("/", 2),
+            A("compare"),
+            N(3),
+        ],
+    ),
     ("var", &[X(0)], &[F("one", 1), N(0)]),
     ("nonvar", &[X(0)], &[A("no")]),
     ("atom", &[A("[]")], &[F("one", 1), N(0)]),
@@ -191,52 +243,419 @@ const ROWS: [(&str, &[Part], &[Part]); 70] = [
     ("atomic", &[F("f", 1), A("a")], &[A("no")]),
     ("compound", &[F("f", 1), A("a")], &[F("one", 1), N(0)]),
     ("callable", &[N(1)], &[A("no")]),
-    ("is_list", &[F(".", 2), N(1), F(".", 2), N(2), A("[]")], &[F("one", 1), N(0)]),
+    (
+        "is_list",
+        &[F(".", 2), N(1), F(".", 2), N(2), A("[]")],
+        &[F("one", 1), N(0)],
+    ),
     ("is_list", &[F(".", 2), N(1), X(0)], &[A("no")]),
     ("ground", &[F("f", 1), X(0)], &[A("no")]),
-    ("functor", &[F("f", 2), A("a"), A("b"), X(0), X(1)], &[F("one", 5), N(0), X(0), A("f"), X(1), N(2)]),
-    ("functor", &[N(7), X(0), A("foo")], &[F("one", 5), N(0), X(0), N(7), A("foo"), N(0)]),
-    ("functor", &[X(0), A("foo"), N(3)], &[F("one", 3), N(3), X(0), F("foo", 3), X(10), X(11), X(12)]),
-    ("functor", &[X(0), A("foo"), N(0)], &[F("one", 3), N(0), X(0), A("foo")]),
-    ("functor", &[X(0), X(1), N(3)], &[F("ball", 1), F("error", 2), A("instantiation_error"), F("/", 2), A("functor"), N(3)]),
-    ("functor", &[X(0), F("f", 1), A("x"), X(1)], &[F("ball", 1), F("error", 2), A("instantiation_error"), F("/", 2), A("functor"), N(3)]),
-    ("functor", &[X(0), F("f", 1), A("x"), A("a")], &[F("ball", 1), F("error", 2), F("type_error", 2), A("atomic"), F("f", 1), A("x"), F("/", 2), A("functor"), N(3)]),
-    ("functor", &[X(0), A("foo"), A("a")], &[F("ball", 1), F("error", 2), F("type_error", 2), A("integer"), A("a"), F("/", 2), A("functor"), N(3)]),
-    ("functor", &[X(0), A("foo"), N(-1)], &[F("ball", 1), F("error", 2), F("domain_error", 2), A("not_less_than_zero"), N(-1), F("/", 2), A("functor"), N(3)]),
-    ("functor", &[X(0), N(5), N(1025)], &[F("ball", 1), F("error", 2), F("representation_error", 1), A("max_arity"), F("/", 2), A("functor"), N(3)]),
-    ("functor", &[X(0), N(5), N(1)], &[F("ball", 1), F("error", 2), F("type_error", 2), A("atom"), N(5), F("/", 2), A("functor"), N(3)]),
-    ("arg", &[N(1), F("f", 2), A("a"), A("b"), X(0)], &[F("one", 3), N(0), X(0), A("a")]),
-    ("arg", &[N(2), F("f", 2), A("a"), A("b"), X(0)], &[F("one", 3), N(0), X(0), A("b")]),
+    (
+        "functor",
+        &[F("f", 2), A("a"), A("b"), X(0), X(1)],
+        &[F("one", 5), N(0), X(0), A("f"), X(1), N(2)],
+    ),
+    (
+        "functor",
+        &[N(7), X(0), A("foo")],
+        &[F("one", 5), N(0), X(0), N(7), A("foo"), N(0)],
+    ),
+    (
+        "functor",
+        &[X(0), A("foo"), N(3)],
+        &[F("one", 3), N(3), X(0), F("foo", 3), X(10), X(11), X(12)],
+    ),
+    (
+        "functor",
+        &[X(0), A("foo"), N(0)],
+        &[F("one", 3), N(0), X(0), A("foo")],
+    ),
+    (
+        "functor",
+        &[X(0), X(1), N(3)],
+        &[
+            F("ball", 1),
+            F("error", 2),
+            A("instantiation_error"),
+            F("/", 2),
+            A("functor"),
+            N(3),
+        ],
+    ),
+    (
+        "functor",
+        &[X(0), F("f", 1), A("x"), X(1)],
+        &[
+            F("ball", 1),
+            F("error", 2),
+            A("instantiation_error"),
+            F("/", 2),
+            A("functor"),
+            N(3),
+        ],
+    ),
+    (
+        "functor",
+        &[X(0), F("f", 1), A("x"), A("a")],
+        &[
+            F("ball", 1),
+            F("error", 2),
+            F("type_error", 2),
+            A("atomic"),
+            F("f", 1),
+            A("x"),
+            F("/", 2),
+            A("functor"),
+            N(3),
+        ],
+    ),
+    (
+        "functor",
+        &[X(0), A("foo"), A("a")],
+        &[
+            F("ball", 1),
+            F("error", 2),
+            F("type_error", 2),
+            A("integer"),
+            A("a"),
+            F("/", 2),
+            A("functor"),
+            N(3),
+        ],
+    ),
+    (
+        "functor",
+        &[X(0), A("foo"), N(-1)],
+        &[
+            F("ball", 1),
+            F("error", 2),
+            F("domain_error", 2),
+            A("not_less_than_zero"),
+            N(-1),
+            F("/", 2),
+            A("functor"),
+            N(3),
+        ],
+    ),
+    (
+        "functor",
+        &[X(0), N(5), N(1025)],
+        &[
+            F("ball", 1),
+            F("error", 2),
+            F("representation_error", 1),
+            A("max_arity"),
+            F("/", 2),
+            A("functor"),
+            N(3),
+        ],
+    ),
+    (
+        "functor",
+        &[X(0), N(5), N(1)],
+        &[
+            F("ball", 1),
+            F("error", 2),
+            F("type_error", 2),
+            A("atom"),
+            N(5),
+            F("/", 2),
+            A("functor"),
+            N(3),
+        ],
+    ),
+    (
+        "arg",
+        &[N(1), F("f", 2), A("a"), A("b"), X(0)],
+        &[F("one", 3), N(0), X(0), A("a")],
+    ),
+    (
+        "arg",
+        &[N(2), F("f", 2), A("a"), A("b"), X(0)],
+        &[F("one", 3), N(0), X(0), A("b")],
+    ),
     ("arg", &[N(3), F("f", 2), A("a"), A("b"), X(0)], &[A("no")]),
     ("arg", &[N(0), F("f", 2), A("a"), A("b"), X(0)], &[A("no")]),
-    ("arg", &[X(1), F("f", 1), A("a"), X(0)], &[F("ball", 1), F("error", 2), A("instantiation_error"), F("/", 2), A("arg"), N(3)]),
-    ("arg", &[A("a"), A("b"), X(0)], &[F("ball", 1), F("error", 2), F("type_error", 2), A("integer"), A("a"), F("/", 2), A("arg"), N(3)]),
-    ("arg", &[N(-1), A("b"), X(0)], &[F("ball", 1), F("error", 2), F("type_error", 2), A("compound"), A("b"), F("/", 2), A("arg"), N(3)]),
-    ("arg", &[N(-1), F("f", 1), A("a"), X(0)], &[F("ball", 1), F("error", 2), F("domain_error", 2), A("not_less_than_zero"), N(-1), F("/", 2), A("arg"), N(3)]),
-    ("=..", &[F("f", 2), A("a"), A("b"), X(0)], &[F("one", 3), N(0), X(0), F(".", 2), A("f"), F(".", 2), A("a"), F(".", 2), A("b"), A("[]")]),
-    ("=..", &[F("f", 1), A("x"), A("foo")], &[F("one", 3), N(0), A("foo"), F(".", 2), A("f"), F(".", 2), A("x"), A("[]")]),
-    ("=..", &[X(0), F(".", 2), A("foo"), F(".", 2), N(1), A("[]")], &[F("one", 3), N(0), X(0), F("foo", 1), N(1)]),
-    ("=..", &[X(0), F(".", 2), N(5), A("[]")], &[F("one", 3), N(0), X(0), N(5)]),
-    ("=..", &[X(0), F(".", 2), A("a"), X(1)], &[F("ball", 1), F("error", 2), A("instantiation_error"), F("/", 2), A("=.."), N(2)]),
-    ("=..", &[X(0), F(".", 2), X(1), A("[]")], &[F("ball", 1), F("error", 2), A("instantiation_error"), F("/", 2), A("=.."), N(2)]),
-    ("=..", &[X(0), F(".", 2), X(1), A("foo")], &[F("ball", 1), F("error", 2), F("type_error", 2), A("list"), F(".", 2), X(1), A("foo"), F("/", 2), A("=.."), N(2)]),
-    ("=..", &[X(0), A("[]")], &[F("ball", 1), F("error", 2), F("domain_error", 2), A("non_empty_list"), A("[]"), F("/", 2), A("=.."), N(2)]),
-    ("=..", &[X(0), F(".", 2), F("f", 1), A("x"), A("[]")], &[F("ball", 1), F("error", 2), F("type_error", 2), A("atomic"), F("f", 1), A("x"), F("/", 2), A("=.."), N(2)]),
-    ("=..", &[X(0), F(".", 2), N(1), F(".", 2), N(2), A("[]")], &[F("ball", 1), F("error", 2), F("type_error", 2), A("atom"), N(1), F("/", 2), A("=.."), N(2)]),
-    ("copy_term", &[F("f", 3), X(3), X(1), X(3), X(0)], &[F("one", 3), N(2), X(0), F("f", 3), X(10), X(11), X(10)]),
-    ("term_variables", &[F("f", 3), X(3), X(1), X(3), X(0)], &[F("one", 3), N(0), X(0), F(".", 2), X(3), F(".", 2), X(1), A("[]")]),
-    ("is", &[X(0), F("-", 1), F("abs", 1), N(-3)], &[F("one", 3), N(0), X(0), N(-3)]),
-    ("is", &[X(0), F("+", 2), F("sign", 1), N(-3), F("\\", 1), F("+", 1), N(0)], &[F("one", 3), N(0), X(0), N(-2)]),
-    ("is", &[X(0), F("+", 2), A("a"), N(1)], &[F("ball", 1), F("error", 2), F("type_error", 2), A("evaluable"), F("/", 2), A("a"), N(0), F("/", 2), A("is"), N(2)]),
-    ("is", &[X(0), F("+", 2), X(1), A("foo")], &[F("ball", 1), F("error", 2), A("instantiation_error"), F("/", 2), A("is"), N(2)]),
-    ("is", &[X(0), F("foo", 1), X(1)], &[F("ball", 1), F("error", 2), F("type_error", 2), A("evaluable"), F("/", 2), A("foo"), N(1), F("/", 2), A("is"), N(2)]),
+    (
+        "arg",
+        &[X(1), F("f", 1), A("a"), X(0)],
+        &[
+            F("ball", 1),
+            F("error", 2),
+            A("instantiation_error"),
+            F("/", 2),
+            A("arg"),
+            N(3),
+        ],
+    ),
+    (
+        "arg",
+        &[A("a"), A("b"), X(0)],
+        &[
+            F("ball", 1),
+            F("error", 2),
+            F("type_error", 2),
+            A("integer"),
+            A("a"),
+            F("/", 2),
+            A("arg"),
+            N(3),
+        ],
+    ),
+    (
+        "arg",
+        &[N(-1), A("b"), X(0)],
+        &[
+            F("ball", 1),
+            F("error", 2),
+            F("type_error", 2),
+            A("compound"),
+            A("b"),
+            F("/", 2),
+            A("arg"),
+            N(3),
+        ],
+    ),
+    (
+        "arg",
+        &[N(-1), F("f", 1), A("a"), X(0)],
+        &[
+            F("ball", 1),
+            F("error", 2),
+            F("domain_error", 2),
+            A("not_less_than_zero"),
+            N(-1),
+            F("/", 2),
+            A("arg"),
+            N(3),
+        ],
+    ),
+    (
+        "=..",
+        &[F("f", 2), A("a"), A("b"), X(0)],
+        &[
+            F("one", 3),
+            N(0),
+            X(0),
+            F(".", 2),
+            A("f"),
+            F(".", 2),
+            A("a"),
+            F(".", 2),
+            A("b"),
+            A("[]"),
+        ],
+    ),
+    (
+        "=..",
+        &[F("f", 1), A("x"), A("foo")],
+        &[
+            F("one", 3),
+            N(0),
+            A("foo"),
+            F(".", 2),
+            A("f"),
+            F(".", 2),
+            A("x"),
+            A("[]"),
+        ],
+    ),
+    (
+        "=..",
+        &[X(0), F(".", 2), A("foo"), F(".", 2), N(1), A("[]")],
+        &[F("one", 3), N(0), X(0), F("foo", 1), N(1)],
+    ),
+    (
+        "=..",
+        &[X(0), F(".", 2), N(5), A("[]")],
+        &[F("one", 3), N(0), X(0), N(5)],
+    ),
+    (
+        "=..",
+        &[X(0), F(".", 2), A("a"), X(1)],
+        &[
+            F("ball", 1),
+            F("error", 2),
+            A("instantiation_error"),
+            F("/", 2),
+            A("=.."),
+            N(2),
+        ],
+    ),
+    (
+        "=..",
+        &[X(0), F(".", 2), X(1), A("[]")],
+        &[
+            F("ball", 1),
+            F("error", 2),
+            A("instantiation_error"),
+            F("/", 2),
+            A("=.."),
+            N(2),
+        ],
+    ),
+    (
+        "=..",
+        &[X(0), F(".", 2), X(1), A("foo")],
+        &[
+            F("ball", 1),
+            F("error", 2),
+            F("type_error", 2),
+            A("list"),
+            F(".", 2),
+            X(1),
+            A("foo"),
+            F("/", 2),
+            A("=.."),
+            N(2),
+        ],
+    ),
+    (
+        "=..",
+        &[X(0), A("[]")],
+        &[
+            F("ball", 1),
+            F("error", 2),
+            F("domain_error", 2),
+            A("non_empty_list"),
+            A("[]"),
+            F("/", 2),
+            A("=.."),
+            N(2),
+        ],
+    ),
+    (
+        "=..",
+        &[X(0), F(".", 2), F("f", 1), A("x"), A("[]")],
+        &[
+            F("ball", 1),
+            F("error", 2),
+            F("type_error", 2),
+            A("atomic"),
+            F("f", 1),
+            A("x"),
+            F("/", 2),
+            A("=.."),
+            N(2),
+        ],
+    ),
+    (
+        "=..",
+        &[X(0), F(".", 2), N(1), F(".", 2), N(2), A("[]")],
+        &[
+            F("ball", 1),
+            F("error", 2),
+            F("type_error", 2),
+            A("atom"),
+            N(1),
+            F("/", 2),
+            A("=.."),
+            N(2),
+        ],
+    ),
+    (
+        "copy_term",
+        &[F("f", 3), X(3), X(1), X(3), X(0)],
+        &[F("one", 3), N(2), X(0), F("f", 3), X(10), X(11), X(10)],
+    ),
+    (
+        "term_variables",
+        &[F("f", 3), X(3), X(1), X(3), X(0)],
+        &[
+            F("one", 3),
+            N(0),
+            X(0),
+            F(".", 2),
+            X(3),
+            F(".", 2),
+            X(1),
+            A("[]"),
+        ],
+    ),
+    (
+        "is",
+        &[X(0), F("-", 1), F("abs", 1), N(-3)],
+        &[F("one", 3), N(0), X(0), N(-3)],
+    ),
+    (
+        "is",
+        &[
+            X(0),
+            F("+", 2),
+            F("sign", 1),
+            N(-3),
+            F("\\", 1),
+            F("+", 1),
+            N(0),
+        ],
+        &[F("one", 3), N(0), X(0), N(-2)],
+    ),
+    (
+        "is",
+        &[X(0), F("+", 2), A("a"), N(1)],
+        &[
+            F("ball", 1),
+            F("error", 2),
+            F("type_error", 2),
+            A("evaluable"),
+            F("/", 2),
+            A("a"),
+            N(0),
+            F("/", 2),
+            A("is"),
+            N(2),
+        ],
+    ),
+    (
+        "is",
+        &[X(0), F("+", 2), X(1), A("foo")],
+        &[
+            F("ball", 1),
+            F("error", 2),
+            A("instantiation_error"),
+            F("/", 2),
+            A("is"),
+            N(2),
+        ],
+    ),
+    (
+        "is",
+        &[X(0), F("foo", 1), X(1)],
+        &[
+            F("ball", 1),
+            F("error", 2),
+            F("type_error", 2),
+            A("evaluable"),
+            F("/", 2),
+            A("foo"),
+            N(1),
+            F("/", 2),
+            A("is"),
+            N(2),
+        ],
+    ),
     ("=:=", &[F("+", 2), N(1), N(1), N(2)], &[F("one", 1), N(0)]),
     ("=\\=", &[N(1), N(1)], &[A("no")]),
     ("<", &[N(1), N(2)], &[F("one", 1), N(0)]),
     ("=<", &[N(2), N(1)], &[A("no")]),
     (">", &[N(2), N(1)], &[F("one", 1), N(0)]),
     (">=", &[N(1), N(2)], &[A("no")]),
-    ("<", &[A("a"), X(0)], &[F("ball", 1), F("error", 2), F("type_error", 2), A("evaluable"), F("/", 2), A("a"), N(0), F("/", 2), A("<"), N(2)]),
+    (
+        "<",
+        &[A("a"), X(0)],
+        &[
+            F("ball", 1),
+            F("error", 2),
+            F("type_error", 2),
+            A("evaluable"),
+            F("/", 2),
+            A("a"),
+            N(0),
+            F("/", 2),
+            A("<"),
+            N(2),
+        ],
+    ),
     ("\\=", &[A("a"), A("b")], &[A("unknown")]),
     ("var", &[A("a"), A("b")], &[A("unknown")]),
     ("call", &[A("a"), A("b"), A("c"), A("d")], &[A("unknown")]),
@@ -258,15 +677,31 @@ fn errors_of_control_are_made(alloc: Global) -> Result<bool, Memory> {
         name: Name::new(alloc, "p")?,
         arity: 2,
     };
-    let found = [
-        error(alloc, existence_error(alloc, &pi)?, Term::atom(alloc, "none")?)?,
-        resource_error(alloc, "text")?,
-        syntax_error(alloc, "illegal_number")?,
-    ];
+    let unknown = error(
+        alloc,
+        existence_error(alloc, &pi)?,
+        Term::atom(alloc, "none")?,
+    )?;
     let wanted = [
-        term(alloc, &[F("error", 2), F("existence_error", 2), A("procedure"), F("/", 2), A("p"), N(2), A("none")])?,
-        term(alloc, &[F("resource_error", 1), A("text")])?,
-        term(alloc, &[F("syntax_error", 1), A("illegal_number")])?,
+        F("error", 2),
+        F("existence_error", 2),
+        A("procedure"),
+        F("/", 2),
+        A("p"),
+        N(2),
+        A("none"),
     ];
-    Ok((0..3).all(|i| Term::cmp(&found[i], &wanted[i]).is_eq()))
+    Ok(
+        is_same(alloc, &unknown, &wanted)?
+            && is_same(
+                alloc,
+                &resource_error(alloc, "text")?,
+                &[F("resource_error", 1), A("text")],
+            )?
+            && is_same(
+                alloc,
+                &syntax_error(alloc, "no")?,
+                &[F("syntax_error", 1), A("no")],
+            )?,
+    )
 }
