@@ -1,6 +1,5 @@
 -- The program of a source text.
 use Rattle.std.proofs.Common.{◌≡◌, ◌≢◌, ℕ, zero, suc, ◌+◌, ◌<◌, List, [], ◌∷◌, ◌++◌, map, length, get_or, All, Result, Ok, Err, Option, Some, None, refl, ap, sym, ◌∙◌, arith, length-append}
-use Rattle.std.proofs.lemmas.List.Elements.{All-map}
 use Rattle.term_core.specs.declared.pi.Pi.{Pi}
 use Rattle.term_core.specs.declared.read_term.ReadTerm.{ReadTerm}
 use Rattle.term_core.specs.Tree.{Tree}
@@ -11,7 +10,7 @@ use Rattle.prolog_read.specs.Outcome.{read_as, clauses_read}
 use Rattle.program.specs.declared.fault.ProgFault.{ProgFault}
 use Rattle.program.specs.declared.fault.ProgFault.TheVariants as program
 use Rattle.program.specs.Clauses.{Clause}
-use Rattle.program.specs.Source.{IsNumbered, trees_read, first_fault, clauses_in, program_of, Tells}
+use Rattle.program.specs.Source.{IsNumbered, AreNumbered, trees_read, first_fault, clauses_in, program_of, Tells}
 use Rattle.builtin_table.specs.Table.{standard, reserved_of}
 use Rattle.request_text.specs.declared.fault.SpecFault.TheVariants as spec
 use Rattle.request_text.specs.Kept.{clause_fault}
@@ -26,8 +25,8 @@ length-numbers_below (suc n) = length-append (reader.numbers_below n) (n ∷ [])
 numbered : (t : Tree) → reader.IsNumbered t → IsNumbered t
 numbered t h = ap length h ∙ length-numbers_below (first_free t)
 
-pub all_numbered : (rs : List ReadTerm) → All (λ r. reader.IsNumbered r.term) rs → All IsNumbered (trees_read rs)
-all_numbered rs h = All-map IsNumbered (λ r. r.term) rs (λ k d lt. numbered (get_or rs k d).term (h k d lt))
+pub all_numbered : (rs : List ReadTerm) → All (λ r. reader.IsNumbered r.term) rs → AreNumbered rs
+all_numbered rs h = λ k d lt. numbered (get_or rs k d).term (h k d lt)
 
 -- ---- programs
 
