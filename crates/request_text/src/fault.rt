@@ -1,9 +1,9 @@
 ghost use Rattle.std.specs.Prelude.{◌≡◌};
 ghost use Rattle.request_text.specs.Spelled.{place_of};
 
+use program::ProgFault;
 use prolog_lex::LexFault;
 use prolog_read::ReadFault;
-use program::ProgFault;
 use std::alloc::{AllocError, AllocFailed};
 use term_core::Memory;
 

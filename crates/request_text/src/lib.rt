@@ -16,6 +16,5 @@ pub use requests::read_request;
 pub use script::{Script, read_script};
 pub use sent::Sent;
 
-
 #[cfg(test)]
 mod tests;

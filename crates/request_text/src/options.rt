@@ -102,12 +102,7 @@ fn are_ask_options(options: &[Term]) -> bool
 }
 
 /// The ask of a goal with these options.
-fn ask_of(
-    alloc: Global,
-    goal: &Term,
-    options: &[Term],
-    bytes: u64,
-) -> Result<Option<Ask>, Memory>
+fn ask_of(alloc: Global, goal: &Term, options: &[Term], bytes: u64) -> Result<Option<Ask>, Memory>
     ensures { IfOk result (λ o. o ≡ ask_of bytes goal.now options.now) }
 {
     if !are_ask_options(options) {
@@ -146,7 +141,9 @@ pub(crate) fn ask_with(
 fn is_create_option(term: &Term) -> bool
     ensures { result ≡ is_create_option term.now }
 {
-    is_compound(term, "chunk", 1) || is_compound(term, "limit", 1) || is_compound(term, "destroy", 1)
+    is_compound(term, "chunk", 1)
+        || is_compound(term, "limit", 1)
+        || is_compound(term, "destroy", 1)
 }
 
 fn are_create_options(options: &[Term]) -> bool
@@ -167,8 +164,11 @@ fn settings_of(alloc: Global, options: &[Term]) -> Result<Option<Settings>, Memo
         limit,
         destroys,
     } = Settings::DEFAULT;
-    let Some(chunk) = number_or(u64::from(chunk), MAX_CHUNK, &given_for(alloc, options, "chunk")?)
-    else {
+    let Some(chunk) = number_or(
+        u64::from(chunk),
+        MAX_CHUNK,
+        &given_for(alloc, options, "chunk")?,
+    ) else {
         return Ok(None);
     };
     let Some(limit) = number_or(limit, MAX_LIMIT, &given_for(alloc, options, "limit")?) else {

@@ -16,8 +16,8 @@ use crate::sent::Sent;
 use builtin_table::Table;
 use event_core::Settings;
 use op_table::Ops;
-use prolog_read::{ReadFault, read_clauses, read_term};
 use program::Program;
+use prolog_read::{ReadFault, read_clauses, read_term};
 use std::alloc::{AllocError, Global};
 use term_core::{List, Memory, Term};
 

@@ -76,7 +76,8 @@ fn requests(rt: HostRuntime) -> Result<(), Fail> {
 #[test]
 fn scripts(rt: HostRuntime) -> Result<(), Fail> {
     let alloc = rt.alloc();
-    let bytes = b":- op(700, xfx, likes).\nsam likes pie.\r\n---\r\n\n% one\ncreate([limit(9),destroy(false)])\nask(likes(sam,W))\nabort";
+    let bytes =
+        b":- op(700, xfx, likes).\nsam likes pie.\r\n---\r\n\n% one\ncreate([limit(9),destroy(false)])\nask(likes(sam,W))\nabort";
     let read = read_script(alloc, bytes)?;
     let likes = Pi {
         name: Name::new(alloc, "likes")?,
