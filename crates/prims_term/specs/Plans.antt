@@ -1,10 +1,14 @@
 -- What a primitive gives, before cells are made for it.
-use Rattle.std.specs.Prelude.{◌≡◌, ℕ, ◌<◌, ◌≤◌, pos, List, [], ◌∷◌, map, length, slice_index, ⊤}
+use Rattle.std.specs.Prelude.{◌≡◌, ℕ, ◌<◌, ◌≤◌, pos, List, [], ◌∷◌, map, length, slice_index, if◌then◌else◌, Ok, Err, ⊤}
 use Rattle.std.specs.List.{All}
 use Rattle.term_core.specs.Tree.{Tree, variable, integer, atom, compound, Trees, trees_of, tree_list, arity}
 use Rattle.term_core.specs.Variables.{variables}
 use Rattle.builtin_table.specs.Lists.{list_of}
-use Rattle.builtin_table.specs.Primitives.{Outcome, Offers, Ball, Unknown, offer, copy, new_variables}
+use Rattle.builtin_table.specs.Primitives.{Outcome, Offers, Ball, Unknown, offer, copy, new_variables, holds}
+use Rattle.std.specs.Ordering.{int_cmp}
+use Rattle.builtin_table.specs.declared.functions.Relation.{Relation}
+use Rattle.builtin_table.specs.Arithmetic.{Value}
+use Rattle.builtin_table.specs.Errors.{error_term, indicator_term}
 use Rattle.store.specs.Cells.{Cells, IsCell, tree_of}
 use Rattle.prims_term.specs.declared.plan.What.{What}
 use Rattle.prims_term.specs.declared.plan.What.TheVariants as what
@@ -24,12 +28,15 @@ arity_of (integer z) = 0
 arity_of (atom f) = 0
 arity_of (compound f ts) = arity ts
 
--- the list of a compound's name and arguments, or of the term alone
+-- a compound's name and arguments, or the term alone
+abbrev pub parts_of : Tree → List Tree
+parts_of (variable n) = variable n ∷ []
+parts_of (integer z) = integer z ∷ []
+parts_of (atom f) = atom f ∷ []
+parts_of (compound f ts) = atom f ∷ tree_list ts
+
 abbrev pub parts_list : Tree → Tree
-parts_list (variable n) = list_of (variable n ∷ [])
-parts_list (integer z) = list_of (integer z ∷ [])
-parts_list (atom f) = list_of (atom f ∷ [])
-parts_list (compound f ts) = list_of (atom f ∷ tree_list ts)
+parts_list t = list_of (parts_of t)
 
 abbrev pub what_tree : Cells → What → Tree
 what_tree s (what.Cell c) = tree_of s c
@@ -80,3 +87,9 @@ IsPlan s args (plan.Equal i w) = (i < length args) × IsWhat s w
 IsPlan s args (plan.Symbol c) = (2 < length args) × IsCell s c
 IsPlan s args (plan.Ball e) = ⊤
 IsPlan s args plan.Unknown = ⊤
+
+-- the same of a comparison of values
+abbrev pub compared_plan : List ℕ → Relation → Value → Value → Plan
+compared_plan f r (Ok x) (Ok y) = if holds r (int_cmp x y) then plan.Passes else plan.Fails
+compared_plan f r (Ok x) (Err e) = plan.Ball (error_term e (indicator_term (record { name = f; arity = 2 })))
+compared_plan f r (Err d) w = plan.Ball (error_term d (indicator_term (record { name = f; arity = 2 })))

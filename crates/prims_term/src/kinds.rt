@@ -10,7 +10,7 @@ use crate::plan::Plan;
 use crate::results::{tested, whole};
 use std::alloc::Global;
 use store::{Cell, Seen, Store};
-use term_core::{Memory, Node};
+use term_core::{Memory, Node, Term};
 
 pub(crate) fn is_variable(store: &Store, c: Cell) -> bool
     requires { IsCell store.now c }
@@ -41,13 +41,23 @@ pub(crate) fn is_compound(store: &Store, c: Cell) -> bool
 }
 
 // Whether no variable occurs.
-fn is_ground(alloc: Global, store: &Store, c: Cell) -> Result<bool, Memory>
+fn is_ground(store: &Store, c: Cell) -> Result<bool, Memory>
     requires { IsCell store.now c }
     ensures { IfOk result (λ b. b ≡ is_ground_tree (tree_of store.now c)) }
 {
     let term = whole(store, c)?;
-    let variables = term.variables(alloc)?;
-    Ok(variables.is_empty())
+    Ok(has_no_variable(&term))
+}
+
+fn has_no_variable(term: &Term) -> bool
+    ensures { result ≡ is_ground_tree term.now }
+{
+    for node in term.nodes() {
+        if let Node::Var(_) = node {
+            return false;
+        }
+    }
+    true
 }
 
 // The primitives of one argument.
@@ -67,7 +77,7 @@ pub(crate) fn of_one(alloc: Global, store: &Store, name: &str, c: Cell) -> Resul
         "compound" => Ok(tested(is_compound(store, c))),
         "callable" => Ok(tested(is_atom(store, c) || is_compound(store, c))),
         "is_list" => Ok(tested(is_list(alloc, store, c)?)),
-        "ground" => Ok(tested(is_ground(alloc, store, c)?)),
+        "ground" => Ok(tested(is_ground(store, c)?)),
         _ => Ok(Plan::Unknown),
     }
 }

@@ -1,8 +1,7 @@
 // Plans, and what they need.
-ghost use Rattle.std.specs.Prelude.{◌≡◌, IfOk};
-ghost use Rattle.builtin_table.specs.Primitives.{tested as tested_of, ball as ball_of};
-ghost use Rattle.store.specs.Cells.{Cells, IsCell, tree_of};
-ghost use Rattle.prims_term.specs.Plans.{plan_outcome, IsPlan};
+ghost use Rattle.std.specs.Prelude.{◌≡◌, if◌then◌else◌, IfOk};
+ghost use Rattle.builtin_table.specs.Errors.{error_term, indicator_term};
+ghost use Rattle.store.specs.Cells.{IsCell, tree_of};
 
 use crate::plan::Plan;
 use builtin_table::{error, indicator};
@@ -12,16 +11,15 @@ use term_core::{MAX_NODES, Memory, Name, Pi, Term};
 
 // A test that is passed or fails.
 pub(crate) fn tested(holds: bool) -> Plan
-    ensures outcome { (s : Cells) (args : List ℕ) → plan_outcome s args result ≡ tested_of holds }
-    ensures plan { (s : Cells) (args : List ℕ) → IsPlan s args result }
+    ensures { result ≡ (if holds then Plan.Passes else Plan.Fails) }
 {
     if holds { Plan::Passes } else { Plan::Fails }
 }
 
 // The error of a primitive of this name and so many arguments.
 pub(crate) fn ball(alloc: Global, name: &str, arity: u32, formal: Term) -> Result<Plan, Memory>
-    ensures outcome { (s : Cells) (args : List ℕ) → IfOk result (λ p. plan_outcome s args p ≡ ball_of name.now arity formal) }
-    ensures plan { (s : Cells) (args : List ℕ) → IfOk result (IsPlan s args) }
+    ensures { IfOk result (λ p. p ≡ Plan.Ball (error_term formal
+        (indicator_term (record { name = name.now; arity = arity })))) }
 {
     let pi = Pi {
         name: Name::new(alloc, name)?,
