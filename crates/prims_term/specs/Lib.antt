@@ -1,4 +1,0 @@
-pub mod Left
-pub mod Outcomes
-pub mod Plans
-pub mod Symbols
