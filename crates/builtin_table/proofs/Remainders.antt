@@ -22,8 +22,10 @@ after k b h = by (nat_lt (suc (k % b)) b) refl
   where
     split : k / b * b + k % b ≡ k
     split = div-add-mod' k b
+
     below : k % b < b
     below = mod-lt k h
+
     by : (t : Bool) → nat_lt (suc (k % b)) b ≡ t → After k b
     by true e =
         let l : suc (k % b) < b = grind (arith, nat_tests) in

@@ -1,17 +1,17 @@
 -- The nodes of a list's cells.
-use Rattle.std.proofs.Common.{◌≡◌, ℕ, zero, suc, ◌+◌, ◌-◌, ◌<◌, ◌≤◌, Bool, true, false, ◌&&◌, ◌==◌, List, [], ◌∷◌, ◌++◌, length, take, drop, get_or, if◌then◌else◌, codes, bytes_eq, refl, ap, sym, subst, ◌∙◌, append_assoc, append-nil, drop-cons, arith}
+use Rattle.std.proofs.Common.{◌≡◌, ℕ, suc, ◌+◌, ◌<◌, ◌≤◌, Bool, true, false, ◌==◌, List, [], ◌∷◌, ◌++◌, length, drop, get_or, if◌then◌else◌, codes, bytes_eq, refl, ap, sym, subst, ◌∙◌, append_assoc, append-nil, drop-cons, arith}
 use Rattle.std.specs.Cmp.Lexicographic.{bytes_decides}
 use Rattle.std.proofs.lemmas.Bool.{and_parts, eqb-true}
 use Rattle.std.specs.Prelude.{All}
-use Rattle.std.proofs.lemmas.List.{length-append, length-drop, drop_all}
+use Rattle.std.proofs.lemmas.List.{length-append, drop_all}
 use Rattle.std.proofs.lemmas.List.Elements.{All-head, All-tail}
 use Rattle.term_core.specs.declared.node.Node.{Node}
 use Rattle.term_core.specs.declared.node.Node.TheVariants as node
 use Rattle.term_core.specs.Tree.{Tree, variable, integer, atom, compound, Trees, no_trees, tree, arity, IsTerm}
-use Rattle.term_core.specs.Flat.{flatten, flatten_all, parse, first_tree, build, build-flatten, parse-flatten}
+use Rattle.term_core.specs.Flat.{flatten, parse, first_tree, build-flatten, parse-flatten}
 use Rattle.term_core.specs.Parts.{symbol_of}
 use Rattle.term_core.specs.Preorder.{AreTermNodes}
-use Rattle.term_core.proofs.Preorder.{AreTermNodes-flatten, AreTermNodes-drop}
+use Rattle.term_core.proofs.Preorder.{AreTermNodes-flatten}
 use Rattle.term_core.proofs.Apart.{first_node, some_node}
 use Rattle.builtin_table.specs.Lists.{cell, list_of, elements, elements_of_cell, rest, rest_of_cell}
 use Rattle.prims_tree.specs.Cells.{is_cell_node}

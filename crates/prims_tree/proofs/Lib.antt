@@ -1,3 +1,4 @@
 pub mod Cells
+pub mod NewVariables
 pub mod Slices
 pub mod TreeValues

@@ -1,8 +1,7 @@
 -- A tree's value, read off its nodes from the back.
-use Rattle.std.proofs.Common.{◌≡◌, ℕ, suc, ◌+◌, ◌-◌, ◌<◌, ◌≤◌, ℤ, List, [], ◌∷◌, ◌++◌, length, take, drop, get_or, reverse, Option, Some, Ok, unwrap_or, refl, ap, sym, ◌∙◌, append_assoc, append-nil, arith}
+use Rattle.std.proofs.Common.{◌≡◌, ℕ, ◌+◌, ◌-◌, ◌<◌, List, [], ◌∷◌, ◌++◌, length, drop, get_or, reverse, Option, Some, unwrap_or, refl, ap, sym, ◌∙◌, append_assoc, append-nil, arith}
 use Rattle.std.proofs.lemmas.List.{length-append, length-reverse, at_drop_more, reverse-append, reverse-reverse}
 use Rattle.term_core.specs.declared.node.Node.{Node}
-use Rattle.term_core.specs.declared.node.Node.TheVariants as node
 use Rattle.term_core.specs.Tree.{Tree, variable, integer, atom, compound, Trees, no_trees, tree, arity}
 use Rattle.term_core.specs.Flat.{flatten, flatten_all}
 use Rattle.builtin_table.specs.Arithmetic.{Value, value_of, values_of, applied, not_evaluable}

@@ -1,5 +1,5 @@
 // The tests of a term's kind (ISO/IEC 13211-1, 8.3).
-ghost use Rattle.std.specs.Prelude.{◌≡◌, IfOk};
+ghost use Rattle.std.specs.Prelude.{◌≡◌, ◌||◌, IfOk};
 ghost use Rattle.builtin_table.specs.Primitives.{is_variable as is_variable_tree, is_integer as is_integer_tree, is_atom as is_atom_tree, is_compound as is_compound_tree, is_ground as is_ground_tree, of_one as of_one_tree};
 ghost use Rattle.builtin_table.specs.Lists.{is_list as is_list_tree};
 ghost use Rattle.prims_tree.specs.Outcomes.{outcome_of};
@@ -32,6 +32,13 @@ pub(crate) fn is_compound(term: &Term) -> bool
     ensures { result ≡ is_compound_tree term.now }
 {
     matches!(term.symbol(), Node::Comp(_, _))
+}
+
+// Whether one of the two is a variable.
+pub(crate) fn is_either_variable(first: &Term, second: &Term) -> bool
+    ensures { result ≡ (is_variable_tree first.now || is_variable_tree second.now) }
+{
+    is_variable(first) || is_variable(second)
 }
 
 // Whether no variable occurs.

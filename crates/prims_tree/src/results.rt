@@ -1,6 +1,6 @@
 // What a primitive gives, made.
 ghost use Rattle.std.specs.Prelude.{◌≡◌, [], ◌∷◌, IfOk};
-ghost use Rattle.builtin_table.specs.Primitives.{unifies as unifies_of, offer as offer_of_pairs, tested as tested_of, ball as ball_of};
+ghost use Rattle.builtin_table.specs.Primitives.{unifies as unifies_of, offer as offer_of_pairs, tested as tested_of, fails as fails_of, ball as ball_of};
 ghost use Rattle.prims_tree.specs.Outcomes.{outcome_of};
 
 use crate::offer::{Offer, Offers};
@@ -25,6 +25,13 @@ pub(crate) fn unifies(alloc: Global, first: Term, second: Term) -> Result<Outcom
     Ok(one(pairs, 0))
 }
 
+// No result.
+pub(crate) fn fails() -> Outcome
+    ensures { outcome_of result ≡ fails_of }
+{
+    Outcome::Offers(Offers::none())
+}
+
 // A test that is passed or fails.
 pub(crate) fn tested(alloc: Global, holds: bool) -> Outcome
     ensures { outcome_of result ≡ tested_of holds }
@@ -32,7 +39,7 @@ pub(crate) fn tested(alloc: Global, holds: bool) -> Outcome
     if holds {
         one(List::new(alloc), 0)
     } else {
-        Outcome::Offers(Offers::none())
+        fails()
     }
 }
 

@@ -3,7 +3,9 @@ ghost use Rattle.std.specs.Prelude.{◌≡◌, ◌<◌, ◌^◌, [], ◌∷◌, 
 ghost use Rattle.builtin_table.specs.Arithmetic.{value_of, applied, unary_applied, binary_applied, evaluated as evaluated_of, not_evaluable as not_evaluable_of};
 ghost use Rattle.prims_tree.specs.Values.{with_node};
 
-use builtin_table::{Binary, Fault, Unary, evaluation_error, indicator, instantiation_error, type_error};
+use builtin_table::{
+    Binary, Fault, Unary, evaluation_error, indicator, instantiation_error, type_error,
+};
 use std::alloc::Global;
 use term_core::{Memory, Name, Node, Pi, Term};
 

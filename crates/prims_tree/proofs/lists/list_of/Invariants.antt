@@ -1,4 +1,4 @@
-use Rattle.std.proofs.Common.{◌≡◌, ◌++◌, drop, take, length}
+use Rattle.std.proofs.Common.{◌≡◌, ◌++◌, drop, take}
 use Rattle.std.specs.Prelude.{All}
 use Rattle.term_core.specs.Tree.{IsTerm}
 use Rattle.term_core.specs.Flat.{flatten}

@@ -1,5 +1,5 @@
-use Rattle.std.proofs.Common.{◌≡◌, ap, sym, subst, ◌∙◌, ◌++◌, [], List, length, drop, arith}
-use Rattle.term_core.specs.Tree.{Tree, IsTerm}
+use Rattle.std.proofs.Common.{◌≡◌, ap, sym, subst, ◌∙◌, ◌++◌, List, length}
+use Rattle.term_core.specs.Tree.{Tree}
 use Rattle.term_core.specs.Flat.{flatten, parse, parse-flatten}
 use Rattle.term_core.specs.Preorder.{AreTermNodes}
 use Rattle.term_core.proofs.Preorder.{AreTermNodes-drop}

@@ -1,5 +1,4 @@
-use Rattle.std.proofs.Common.{◌≡◌, ◌∷◌, ◌++◌, codes, take}
-use Rattle.term_core.specs.declared.node.Node.TheVariants.{Comp}
+use Rattle.std.proofs.Common.{◌≡◌, ◌++◌, take}
 use Rattle.prims_tree.proofs.lists.push_cell.Given as goal
 
 abbrev pub invariant-loop-node : goal.invariant-loop-node
