@@ -1,15 +1,15 @@
 -- What a script sends is answered one after the other.
-use Rattle.std.proofs.Common.{◌≡◌, ℕ, suc, ◌+◌, ◌-◌, ◌≤◌, Bool, true, false, nat_le, List, [], ◌∷◌, ◌++◌, length, take, drop, refl, ap, sym, ◌∙◌, append_assoc, append-nil, arith, length-append}
+use Rattle.std.proofs.Common.{◌≡◌, ℕ, ◌+◌, ◌-◌, ◌≤◌, Bool, true, false, List, [], ◌∷◌, ◌++◌, length, take, drop, refl, ap, sym, ◌∙◌, append_assoc, append-nil, arith, length-append}
 use Rattle.std.proofs.lemmas.Bool.{le-leb}
 use Rattle.std.proofs.lemmas.List.{take_all, drop_all}
 use Rattle.event_core.specs.declared.event.Event.{Event}
 use Rattle.event_core.specs.declared.event.Event.TheVariants as event
 use Rattle.event_core.specs.declared.request.Request.{Request as Sending}
-use Rattle.event_core.specs.Full.{Spec, events_of, Place, Free, In, Closed, Reading, at, closes, gives_all, gives_at, gives, consumes_at, consumes, step, reads, Act, Sends, Struck, Strike, ByAbort, ByDestroy, strikes_at, strikes, left, full_from, full, made}
+use Rattle.event_core.specs.Full.{Spec, events_of, Place, Free, In, Closed, Reading, at, closes, gives_all, gives_at, gives, consumes_at, consumes, step, reads, Act, Struck, Strike, ByAbort, ByDestroy, strikes_at, strikes, left, full_from, full, made}
 use Rattle.event_core.proofs.Stepping.{front, closes_front, consumes_front, step_front}
 use Rattle.request_text.specs.declared.sent.Sent.{Sent}
 use Rattle.request_text.specs.declared.sent.Sent.TheVariants.{Request, Abort, Destroy}
-use Rattle.request_text.specs.Lines.{sent_step, Progress, no_progress, comes_far, progress, acts_from, acts, sent_brings}
+use Rattle.request_text.specs.Lines.{Progress, no_progress, comes_far, acts_from, acts, sent_brings}
 
 -- the strikes that a script has
 abbrev strike : Bool → Strike

@@ -1,13 +1,13 @@
 -- Lines, and the places where they begin.
-use Rattle.std.proofs.Common.{◌≡◌, ℕ, zero, suc, ◌+◌, ◌<◌, ◌≤◌, Bool, true, false, not, ◌==◌, nat_lt, cond, if◌then◌else◌, List, [], ◌∷◌, ◌++◌, length, take, drop, get_or, position, Option, Some, None, refl, ap, sym, ◌∙◌, arith, All, take-append-drop}
-use Rattle.std.specs.List.{prefix_len, position_or_len, slice_split, before_first, after_first}
-use Rattle.std.specs.Str.Lines.{lines, lines_of_parts, strip_carriage_return}
+use Rattle.std.proofs.Common.{◌≡◌, ℕ, zero, suc, ◌+◌, ◌<◌, ◌≤◌, Bool, true, false, not, ◌==◌, nat_lt, cond, if◌then◌else◌, List, [], ◌∷◌, ◌++◌, length, drop, get_or, position, Option, Some, None, refl, ap, sym, ◌∙◌, arith, take-append-drop}
+use Rattle.std.specs.List.{position_or_len, slice_split, before_first, after_first}
+use Rattle.std.specs.Str.Lines.{lines, lines_of_parts}
 use Rattle.std.proofs.lemmas.Bool.{ltb-true, ltb-false, not-true}
 use Rattle.std.proofs.lemmas.List.{drop-drop, drop_all}
 use Rattle.std.proofs.lemmas.List.Splits.{slice_split_none, slice_split_first, length-slice_split}
 use Rattle.std.proofs.lemmas.List.Sums.{prefix_len_passes}
-use Rattle.request_text.specs.Spelled.{is_feed, is_rule, line_size, line_start, Parts, parts, parts_at}
-use Rattle.request_text.specs.Laws.{LinesKeepTheirPlaces, Parted, ScriptsAreParted}
+use Rattle.request_text.specs.Spelled.{is_feed, line_size, line_start, Parts, parts, parts_at}
+use Rattle.request_text.specs.Laws.{LinesKeepTheirPlaces, ScriptsAreParted}
 
 -- ---- the first line
 

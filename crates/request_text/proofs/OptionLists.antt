@@ -1,17 +1,17 @@
 -- Options, as the code reads them.
-use Rattle.std.proofs.Common.{◌≡◌, ◌≢◌, ℕ, suc, zero, ◌+◌, ◌≤◌, ◌<◌, Bool, true, false, ◌&&◌, ◌||◌, ◌==◌, List, [], ◌∷◌, ◌++◌, length, append-nil, take, get_or, Option, Some, None, refl, ap, sym, ◌∙◌, arith, codes, bytes_eq, if◌then◌else◌, is_some}
+use Rattle.std.proofs.Common.{◌≡◌, ◌≢◌, ℕ, ◌+◌, ◌≤◌, ◌<◌, Bool, true, false, ◌||◌, List, [], ◌∷◌, ◌++◌, length, append-nil, take, get_or, Option, Some, None, refl, ap, sym, ◌∙◌, arith, codes, if◌then◌else◌, is_some}
 use Rattle.std.specs.List.{list_all, list_any, filter_map, cons_option}
 use Rattle.std.proofs.lemmas.Bool.{and_parts, false≢true}
 use Rattle.std.proofs.lemmas.List.{take_more}
 use Rattle.std.proofs.lemmas.List.Elements.{filter_map-append}
-use Rattle.term_core.specs.Tree.{Tree, variable, integer, atom, compound, Trees, no_trees, tree, arity}
+use Rattle.term_core.specs.Tree.{Tree, variable, integer, atom, compound, no_trees, tree}
 use Rattle.term_core.specs.Parts.{arguments_of}
 use Rattle.event_core.specs.declared.settings.TheConstants.Settings.{DEFAULT}
 use Rattle.event_core.specs.declared.limits.TheConstants.{MAX_LIMIT}
 use Rattle.request_text.specs.declared.options.TheConstants.{MAX_CHUNK}
 use Rattle.request_text.specs.declared.options.Given.{Given}
 use Rattle.request_text.specs.declared.options.Given.TheVariants.{Never, Once, Again}
-use Rattle.request_text.specs.Shapes.{is_compound, at_most, elements}
+use Rattle.request_text.specs.Shapes.{is_compound, at_most}
 use Rattle.request_text.specs.Options.{value_of, given, with_value, given_for, term_or, number_or, flag_or, and_then, is_ask_option, ask_of, is_create_option, settings_of}
 use Rattle.request_text.proofs.TermShapes.{is_few, is_many}
 

@@ -1,6 +1,5 @@
 -- The lines that a script prints, line by line.
-use Rattle.std.proofs.Common.{◌≡◌, ◌≢◌, ℕ, List, [], ◌∷◌, ◌++◌, refl, ap, sym, ◌∙◌, codes}
-use Rattle.event_core.specs.declared.event.Event.{Event}
+use Rattle.std.proofs.Common.{◌≡◌, ◌≢◌, List, [], ◌∷◌, refl, ap, sym, ◌∙◌, codes}
 use Rattle.event_core.specs.declared.event.Event.TheVariants.{Create}
 use Rattle.event_core.specs.Full.{Spec, Place, Free, In, Closed}
 use Rattle.event_core.specs.Standing.{spec_of}

@@ -1,9 +1,9 @@
 -- The program of a source text.
-use Rattle.std.proofs.Common.{◌≡◌, ◌≢◌, ℕ, zero, suc, ◌+◌, ◌<◌, List, [], ◌∷◌, ◌++◌, map, length, get_or, All, Result, Ok, Err, Option, Some, None, refl, ap, sym, ◌∙◌, arith, length-append}
+use Rattle.std.proofs.Common.{◌≡◌, ℕ, zero, suc, ◌+◌, List, [], ◌∷◌, map, length, get_or, All, Ok, Err, Option, Some, None, refl, ap, sym, ◌∙◌, arith, length-append}
 use Rattle.term_core.specs.declared.pi.Pi.{Pi}
 use Rattle.term_core.specs.declared.read_term.ReadTerm.{ReadTerm}
 use Rattle.term_core.specs.Tree.{Tree}
-use Rattle.term_core.specs.Variables.{variables, first_free}
+use Rattle.term_core.specs.Variables.{first_free}
 use Rattle.prolog_read.specs.Variables as reader
 use Rattle.prolog_read.specs.Clauses.{iso}
 use Rattle.prolog_read.specs.Outcome.{read_as, clauses_read}

@@ -1,10 +1,10 @@
 -- Request lines, one after the other.
-use Rattle.std.proofs.Common.{◌≡◌, ℕ, suc, ◌+◌, ◌≤◌, ◌<◌, Bool, true, false, List, [], ◌∷◌, ◌++◌, map, length, drop, get_or, Result, Ok, Err, Option, Some, None, refl, ap, sym, ◌∙◌, subst, arith, append_assoc, append-nil}
+use Rattle.std.proofs.Common.{◌≡◌, ℕ, ◌+◌, ◌≤◌, ◌<◌, Bool, true, false, List, [], ◌∷◌, ◌++◌, map, length, drop, get_or, Result, Ok, Err, Option, Some, None, refl, ap, sym, ◌∙◌, arith, append_assoc, append-nil}
 use Rattle.std.proofs.lemmas.List.{drop_more, drop_all, drop-map}
 use Rattle.prolog_read.specs.declared.fault.ReadFault.{ReadFault}
 use Rattle.prolog_read.specs.declared.fault.ReadFault.TheVariants as read
 use Rattle.prolog_read.specs.Clauses.{iso}
-use Rattle.prolog_read.specs.Outcome.{ReadAs, term_read, Tells}
+use Rattle.prolog_read.specs.Outcome.{term_read, Tells}
 use Rattle.event_core.specs.declared.settings.Settings.{Settings}
 use Rattle.event_core.specs.declared.settings.TheConstants.Settings.{DEFAULT}
 use Rattle.request_text.specs.declared.fault.ScriptFault.{ScriptFault}

@@ -1,7 +1,7 @@
 -- The lines that a script prints, each without its line end.
 use Rattle.std.specs.Prelude.{ℕ, suc, List, [], ◌∷◌, ◌++◌, map, length, codes}
 use Rattle.event_core.specs.declared.event.Event.{Event}
-use Rattle.event_core.specs.Full.{Spec, Query, events_of, Place, Free, In, Closed, Reading, at, step, consumes_at, Act, Sends, Struck, Strike, ByAbort, ByDestroy, strikes_at, full}
+use Rattle.event_core.specs.Full.{Spec, events_of, Place, Free, In, Closed, Reading, step, consumes_at, Act, Sends, Struck, ByAbort, ByDestroy, strikes_at, full}
 use Rattle.event_core.specs.Lines.{line_of}
 use Rattle.event_core.specs.Standing.{spec_of}
 use Rattle.event_core.specs.Texts.{argument}

@@ -1,5 +1,5 @@
 -- Options: a proper list of terms name(Value), each name at most once.
-use Rattle.std.specs.Prelude.{ℕ, Bool, true, ◌||◌, List, [], ◌∷◌, Option, Some, None, if◌then◌else◌, codes, bytes_eq}
+use Rattle.std.specs.Prelude.{ℕ, Bool, ◌||◌, List, [], ◌∷◌, Option, Some, None, if◌then◌else◌, codes, bytes_eq}
 use Rattle.std.specs.List.{list_all, filter_map}
 use Rattle.term_core.specs.Tree.{Tree, compound, no_trees, tree}
 use Rattle.event_core.specs.declared.request.Ask.{Ask}

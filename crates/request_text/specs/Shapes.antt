@@ -1,5 +1,5 @@
 -- Terms by their shape.
-use Rattle.std.specs.Prelude.{ℕ, Bool, true, false, ◌&&◌, ◌==◌, nat_le, length, pos, List, [], ◌∷◌, Option, Some, None, if◌then◌else◌, codes, bytes_eq}
+use Rattle.std.specs.Prelude.{ℕ, Bool, true, false, ◌&&◌, ◌==◌, nat_le, length, pos, List, Option, Some, None, if◌then◌else◌, codes, bytes_eq}
 use Rattle.term_core.specs.Tree.{Tree, integer, atom, compound, arity}
 use Rattle.builtin_table.specs.Lists as lists
 use Rattle.builtin_table.specs.Lists.{is_list}

@@ -1,4 +1,4 @@
-use Rattle.std.proofs.Common.{sym, ◌∙◌, ap, get_or}
+use Rattle.std.proofs.Common.{sym, ◌∙◌, ap}
 use Rattle.request_text.specs.Options.{value_of}
 use Rattle.request_text.proofs.OptionLists.{one_without, one_with}
 use Rattle.request_text.proofs.options.given_for.Goals as goal

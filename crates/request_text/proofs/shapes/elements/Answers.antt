@@ -1,4 +1,4 @@
-use Rattle.std.proofs.Common.{◌≡◌, ◌∙◌, ap, sym, [], ◌∷◌, length, arith, length-append}
+use Rattle.std.proofs.Common.{◌∙◌, ap, sym, [], ◌∷◌, length, arith, length-append}
 use Rattle.request_text.specs.Shapes.{elements, at_most}
 use Rattle.request_text.proofs.TermShapes.{behind, taken_off, one_too_many, all_taken, not_ended}
 use Rattle.request_text.proofs.shapes.elements.Goals as goal
