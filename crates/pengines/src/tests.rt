@@ -55,7 +55,7 @@ const REFUSED: Case = Case {
     ..DONE
 };
 
-const CASES: [Case; 53] = [
+const ANSWERS: [Case; 22] = [
     DONE,
     Case {
         name: "rules",
@@ -183,6 +183,9 @@ const CASES: [Case; 53] = [
         written: b"create\n",
         ..DONE
     },
+];
+
+const CONTROL: [Case; 8] = [
     Case {
         name: "a term that would hold itself",
         input: b"---\nask(X=f(X))\n",
@@ -231,6 +234,9 @@ const CASES: [Case; 53] = [
         written: b"create\nerror(error(evaluation_error(undefined),(is)/2))\nerror(error(evaluation_error(zero_divisor),(is)/2))\nerror(error(type_error(evaluable,a/0),(is)/2))\n",
         ..DONE
     },
+];
+
+const REFUSALS: [Case; 19] = [
     Case {
         name: "other word",
         word: "sessions",
@@ -348,6 +354,9 @@ const CASES: [Case; 53] = [
         said: b"",
         ..REFUSED
     },
+];
+
+const FAULTS: [Case; 4] = [
     Case {
         name: "second read fails",
         read_fails: &[2],
@@ -397,12 +406,31 @@ fn run_case(rt: &impl Abort, alloc: Global, case: &Case) -> Result<(), Fail> {
     Ok(())
 }
 
-#[test]
-fn each_status_has_its_text(rt: HostRuntime) -> Result<(), Fail> {
-    for case in &CASES {
-        run_case(&rt, rt.alloc(), case)?;
+fn run_cases(rt: &impl Abort, alloc: Global, cases: &[Case]) -> Result<(), Fail> {
+    for case in cases {
+        run_case(rt, alloc, case)?;
     }
     Ok(())
+}
+
+#[test]
+fn requests_bring_their_lines(rt: HostRuntime) -> Result<(), Fail> {
+    run_cases(&rt, rt.alloc(), &ANSWERS)
+}
+
+#[test]
+fn control_and_arithmetic(rt: HostRuntime) -> Result<(), Fail> {
+    run_cases(&rt, rt.alloc(), &CONTROL)
+}
+
+#[test]
+fn refusals_have_their_places(rt: HostRuntime) -> Result<(), Fail> {
+    run_cases(&rt, rt.alloc(), &REFUSALS)
+}
+
+#[test]
+fn each_status_has_its_text(rt: HostRuntime) -> Result<(), Fail> {
+    run_cases(&rt, rt.alloc(), &FAULTS)
 }
 
 #[test]
