@@ -1,6 +1,11 @@
+pub mod Chunks
 pub mod Cutting
+pub mod Ending
+pub mod Longer
 pub mod Parts
 pub mod Pieces
+pub mod Prompts
+pub mod Reading
 pub mod Replies
 pub mod Resting
 mod Rows

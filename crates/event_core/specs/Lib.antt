@@ -9,4 +9,5 @@ pub mod Reads
 pub mod Requests
 pub mod Standing
 pub mod Stops
+pub mod Summaries
 pub mod Texts
