@@ -1,7 +1,6 @@
 -- The value of an expression, by its outermost symbol.
-use Rattle.std.proofs.Common.{◌≡◌, ℕ, zero, suc, ◌+◌, ◌<◌, ℤ, List, [], ◌∷◌, ◌++◌, length, reverse, Option, Some, None, Ok, Err, refl, ap, ◌∙◌, sym, subst, arith}
+use Rattle.std.proofs.Common.{◌≡◌, ℕ, suc, ℤ, List, [], ◌∷◌, ◌++◌, length, reverse, Option, Some, None, Ok, Err, refl, ap, ◌∙◌, sym, arith}
 use Rattle.std.proofs.lemmas.List.{reverse-append}
-use Rattle.term_core.specs.declared.node.Node.{Node}
 use Rattle.term_core.specs.declared.node.Node.TheVariants.{Var, Int, Atom, Comp}
 use Rattle.term_core.specs.Tree.{Tree, variable, integer, atom, compound, Trees, no_trees, tree, arity, tree_list}
 use Rattle.term_core.specs.Parts.{symbol_of, arguments_of}
@@ -12,7 +11,7 @@ use Rattle.builtin_table.specs.Arithmetic.{Value, value_of, values_of, applied, 
 use Rattle.store.specs.Cells.{Cells, tree_of, argument_of}
 use Rattle.arith.specs.declared.machine.Task.{Task}
 use Rattle.arith.specs.declared.machine.Task.TheVariants.{Find, One, Two}
-use Rattle.arith.specs.Machine.{then, run, top, parted, part_result}
+use Rattle.arith.specs.Machine.{then, run, parted, part_result}
 
 -- ---- by symbol
 

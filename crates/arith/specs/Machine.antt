@@ -1,5 +1,5 @@
 -- What is left to do of an expression, and what it comes to.
-use Rattle.std.specs.Prelude.{◌≡◌, ℕ, ℤ, pos, List, [], ◌∷◌, ◌++◌, drop, slice_index_or, Option, Some, None, Ok, Err, ⊤}
+use Rattle.std.specs.Prelude.{◌≡◌, ℤ, pos, List, [], ◌∷◌, ◌++◌, drop, slice_index_or, Option, Some, None, Ok, Err, ⊤}
 use Rattle.term_core.specs.Tree.{Tree}
 use Rattle.builtin_table.specs.Arithmetic.{Value, value_of, evaluated, unary_value, binary_value}
 use Rattle.store.specs.Cells.{Cells, IsCell, tree_of}

@@ -20,7 +20,7 @@ front es x = at x.place (es ++ x.emitted)
 module _ (spec : Spec) where
   -- what was emitted stays in front
 
-  closes_front : (b : Bool) (es fs : List Event) → closes b (es ++ fs) ≡ front es (closes b fs)
+  pub closes_front : (b : Bool) (es fs : List Event) → closes b (es ++ fs) ≡ front es (closes b fs)
   closes_front true es fs = ap (λ l. at Closed l) (append_assoc es fs (event.Destroy ∷ []))
   closes_front false es fs = refl
 
@@ -29,7 +29,7 @@ module _ (spec : Spec) where
   comes_to_front q Prompting es fs = refl
   comes_to_front q Over es fs = closes_front spec.destroys es fs
 
-  gives_all_front : (p : Place) (es fs : List Event) → gives_all_at spec p (es ++ fs) ≡ front es (gives_all_at spec p fs)
+  pub gives_all_front : (p : Place) (es fs : List Event) → gives_all_at spec p (es ++ fs) ≡ front es (gives_all_at spec p fs)
   gives_all_front Free es fs = refl
   gives_all_front (In q g) es fs =
       ap (λ l. comes_to spec q (part_of spec q).rest l) (append_assoc es fs (span spec q g (length (events_of spec q))))
@@ -45,7 +45,7 @@ module _ (spec : Spec) where
   asks_front a None es = ap (λ l. at (In (record { asked = a; requests = [] }) 0) l) (sym (append-nil es))
   asks_front a (Some t) es = closes_front spec.destroys es (event.Error t ∷ [])
 
-  consumes_front : (r : Request) (p : Place) (es : List Event) → consumes_at spec r p es ≡ front es (consumes_at spec r p [])
+  pub consumes_front : (r : Request) (p : Place) (es : List Event) → consumes_at spec r p es ≡ front es (consumes_at spec r p [])
   consumes_front (request.Ask a) Free es = asks_front a (spec.refusal a) es
   consumes_front (request.Next c) Free es = refl
   consumes_front request.Stop Free es = refl
@@ -54,12 +54,12 @@ module _ (spec : Spec) where
   consumes_front r Closed es = ap (λ l. at Closed l) (sym (append-nil es))
 
   -- it is the same to give all events before further requests are read
-  given_first : (rs : List Request) (x : Reading) → gives_all spec (reads spec rs x) ≡ gives_all spec (reads spec rs (gives_all spec x))
+  pub given_first : (rs : List Request) (x : Reading) → gives_all spec (reads spec rs x) ≡ gives_all spec (reads spec rs (gives_all spec x))
   unfolding reads
   given_first [] x = sym (rests spec x.place x.emitted)
   given_first (r ∷ rs) x = ap (λ y. gives_all spec (reads spec rs (consumes spec r y))) (sym (rests spec x.place x.emitted))
 
-  step_front : (r : Request) (p : Place) (es : List Event) → gives_all spec (consumes_at spec r p es) ≡ front es (step spec r p)
+  pub step_front : (r : Request) (p : Place) (es : List Event) → gives_all spec (consumes_at spec r p es) ≡ front es (step spec r p)
   step_front r p es =
       ap (gives_all spec) (consumes_front r p es)
       ∙ gives_all_front (consumes_at spec r p []).place es (consumes_at spec r p []).emitted

@@ -2,12 +2,12 @@ ghost use Rattle.std.specs.Prelude.{◌≡◌, ◌≢◌, ◌↔◌, [], ◌∷�
 ghost use Rattle.event_core.specs.declared.event.Event.TheVariants as event;
 ghost use Rattle.event_core.specs.declared.query.Place.TheVariants.{Asked};
 ghost use Rattle.event_core.specs.declared.rest.Rest.TheVariants as rest;
-ghost use Rattle.event_core.specs.Full.{Spec, Free, Closed, at, step};
+ghost use Rattle.event_core.specs.Full.{Spec, Free, Closed, ByAbort, ByDestroy, at, step, strikes_at};
 ghost use Rattle.event_core.specs.Standing.{place_at, reading_at, IsRead, Stands, spec_of};
 
 use crate::event::{Event, Kind};
 use crate::fit::{Fit, fit_of};
-use crate::query::{Outcome, Place, Query, begin, end};
+use crate::query::{Outcome, Place, Query, begin, end_with};
 use crate::request::Request;
 use crate::settings::Settings;
 use program::Program;
@@ -58,9 +58,7 @@ impl Query {
                 Ok(outcome)
             }
             Fit::Stops => {
-                let mut events = List::new(alloc);
-                events.push(Event::Stop)?;
-                let outcome = end(destroys, events)?;
+                let outcome = end_with(alloc, destroys, Event::Stop)?;
                 Ok(outcome)
             }
             Fit::Misfit => {
@@ -69,6 +67,24 @@ impl Query {
                 Ok(outcome)
             }
         }
+    }
+}
+
+// What an abort does at a place of rest.
+fn break_off(alloc: Global, destroys: bool, place: Place) -> Result<Outcome, Memory>
+    ensures reading { IfOk result (λ o. (spec : Spec) → spec.destroys ≡ destroys → reading_at spec o ≡ strikes_at spec ByAbort (place_at spec place) []) }
+    ensures stands { IfOk result (λ o. (spec : Spec) → Stands spec o.place) }
+{
+    match place {
+        Place::Asked(_) => end_with(alloc, destroys, Event::Abort),
+        Place::Free => Ok(Outcome {
+            place: Place::Free,
+            events: List::new(alloc),
+        }),
+        Place::Closed => Ok(Outcome {
+            place: Place::Closed,
+            events: List::new(alloc),
+        }),
     }
 }
 
@@ -134,5 +150,34 @@ impl Pengine {
         };
         self.place = outcome.place;
         Ok(outcome.events)
+    }
+
+    /// Breaks off the query that rests, and gives the event `abort`; outside of a query nothing comes.
+    /// After want of memory the pengine is past its end.
+    pub fn abort(&mut self, alloc: Global) -> Result<List<Event>, Memory>
+        ensures events { IfOk result (λ es. at self.new.place es ≡ strikes_at (spec_of self.old.clauses self.old.settings) ByAbort self.old.place []) }
+        ensures clauses { self.new.clauses ≡ self.old.clauses }
+        ensures settings { self.new.settings ≡ self.old.settings }
+        ensures err { OnErr result (self.new.place ≡ Closed) }
+    {
+        let place = mem::replace(&mut self.place, Place::Closed);
+        let outcome = break_off(alloc, self.settings.destroys, place)?;
+        self.place = outcome.place;
+        Ok(outcome.events)
+    }
+
+    /// Ends the pengine, and gives the event `destroy`; past the end nothing comes. After want of memory too the pengine is past its end.
+    pub fn destroy(&mut self, alloc: Global) -> Result<List<Event>, Memory>
+        ensures events { IfOk result (λ es. at self.new.place es ≡ strikes_at (spec_of self.old.clauses self.old.settings) ByDestroy self.old.place []) }
+        ensures clauses { self.new.clauses ≡ self.old.clauses }
+        ensures settings { self.new.settings ≡ self.old.settings }
+        ensures err { OnErr result (self.new.place ≡ Closed) }
+    {
+        let mut events = List::new(alloc);
+        match mem::replace(&mut self.place, Place::Closed) {
+            Place::Free | Place::Asked(_) => events.push(Event::Destroy)?,
+            Place::Closed => {}
+        }
+        Ok(events)
     }
 }

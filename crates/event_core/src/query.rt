@@ -1,5 +1,5 @@
 // A query that rests, and the places where a pengine rests.
-ghost use Rattle.std.specs.Prelude.{◌≡◌, [], IfOk, length};
+ghost use Rattle.std.specs.Prelude.{◌≡◌, [], ◌∷◌, IfOk, length};
 ghost use Rattle.event_core.specs.declared.fit.Fit.TheVariants.{GoesOn};
 ghost use Rattle.event_core.specs.Requests.{fit};
 ghost use Rattle.event_core.specs.Full.{Spec, In, events_of, closes, comes_to, gives_all_at};
@@ -59,6 +59,17 @@ pub(crate) fn end(destroys: bool, mut events: List<Event>) -> Result<Outcome, Me
         place: Place::Closed,
         events,
     })
+}
+
+// A query ends with this event.
+pub(crate) fn end_with(alloc: Global, destroys: bool, event: Event) -> Result<Outcome, Memory>
+    ensures reading { IfOk result (λ o. (spec : Spec) → reading_at spec o ≡ closes destroys (event ∷ [])) }
+    ensures stands { IfOk result (λ o. (spec : Spec) → Stands spec o.place) }
+{
+    let mut events = List::new(alloc);
+    events.push(event)?;
+    let outcome = end(destroys, events)?;
+    Ok(outcome)
 }
 
 impl Query {

@@ -7,8 +7,8 @@
 mod input;
 mod output;
 mod printing;
+mod refusal;
 mod run;
-mod script;
 mod session;
 
 use output::say;

@@ -1,10 +1,11 @@
 // Writes to a sink, which may take a piece in parts.
-ghost use Rattle.std.specs.Prelude.{◌≤◌, OnOk, OnErr};
+ghost use Rattle.std.specs.Prelude.{◌≡◌, ◌≤◌, IfOk, OnOk, OnErr};
 ghost use Rattle.std.specs.Io.KnownBytes.{Appends};
 ghost use Rattle.outside.specs.Faults.{Rose};
-ghost use Rattle.pengines.specs.Output.{AppendsPart, Says};
+ghost use Rattle.pengines.specs.Output.{AppendsPart, Says, line};
 
 use outside::{Sink, Wrote};
+use term_core::Memory;
 
 /// A write failed: the sink's count of faults rose.
 #[derive(Clone, Copy, Debug, PartialEq, Eq)]
@@ -32,4 +33,12 @@ pub fn say<K: Sink>(sink: &mut K, text: &[u8])
     ensures { Says K.taken K.faults sink.old sink.new text.now }
 {
     let _ = write_all(sink, text);
+}
+
+/// A text and its line end.
+pub fn with_line_end(mut text: Vec<u8>) -> Result<Vec<u8>, Memory>
+    ensures { IfOk result (λ l. l.items ≡ line text.items) }
+{
+    text.push(b'\n')?;
+    Ok(text)
 }

@@ -2,13 +2,17 @@
 ghost use Rattle.std.specs.Prelude.{◌≡◌, ◌≢◌, ◌⊎◌, ◌↔◌, IsTrue, codes};
 ghost use Rattle.outside.specs.Faults.{Rose};
 ghost use Rattle.pengines.specs.Output.{Says, line};
-ghost use Rattle.pengines.specs.Session.{Done, DonePart, DoneToMemory, IsTooLong, IsNotBuilt, Unchanged};
+ghost use Rattle.pengines.specs.Refusal.{refusal_text};
+ghost use Rattle.pengines.specs.Session.{Done, DonePart, DoneToMemory, IsTooLong, Refuses, Unchanged};
 ghost use Rattle.pengines.specs.Words.{IsSession};
 
 use crate::output::say;
+use crate::refusal::refusal_line;
 use crate::session::{SessionStop, run_session};
 use outside::{Sink, Source};
+use request_text::ScriptFault;
 use std::alloc::Global;
+use term_core::Memory;
 
 /// Whether the words are exactly `session`.
 fn is_session(words: &[String]) -> bool
@@ -20,13 +24,31 @@ fn is_session(words: &[String]) -> bool
     }
 }
 
+/// Says why a script is refused, and answers the exit status.
+fn say_refusal<X: Sink>(alloc: Global, err: &mut X, fault: &ScriptFault) -> u8
+    ensures statuses { (result ≡ 3) ⊎ (result ≡ 7) }
+    ensures refused { result ≡ 3 → Says X.taken X.faults err.old err.new (line (refusal_text fault.now)) }
+    ensures memory { result ≡ 7 → Says X.taken X.faults err.old err.new (line (codes "pengines: no memory")) }
+{
+    match refusal_line(alloc, fault) {
+        Ok(line) => {
+            say(err, &line);
+            3
+        }
+        Err(Memory) => {
+            say(err, b"pengines: no memory\n");
+            7
+        }
+    }
+}
+
 /// Runs the command that the words name, and answers its exit status. A fault of `err` changes no status.
 ///
 /// | Status | Comes |
 /// |---|---|
 /// | 0 | the command did its work, and its input was read to the end |
 /// | 2 | exactly where the words are refused |
-/// | 3 | the input is too long, or it is no script that is built |
+/// | 3 | exactly where the input is too long, or it is no script |
 /// | 4 | only where the count of faults of `src` rose |
 /// | 5 | only where the count of faults of `out` rose |
 /// | 7 | want of memory, the pengine's own event `memory` included |
@@ -54,12 +76,11 @@ pub fn run_plain<S: Source, K: Sink, X: Sink>(
     ensures done { result ≡ 0 → Done S.left K.taken src.old src.new out.old out.new
         × Unchanged X.taken err.old err.new }
 
-    // The input is too long, or it is no script. Nothing is written but the refusal.
+    // The input is too long, or it is refused as a script. Nothing is written but the refusal.
     ensures refused { result ≡ 3 → Unchanged K.taken out.old out.new
         × ((IsTooLong S.left src.old src.new
         × Says X.taken X.faults err.old err.new (line (codes "pengines: input too long")))
-        ⊎ (IsNotBuilt S.left src.old src.new
-        × Says X.taken X.faults err.old err.new (line (codes "pengines: not built")))) }
+        ⊎ Refuses S.left X.taken X.faults src.old src.new err.old err.new) }
 
     // The source failed. Nothing is written.
     ensures read_fault { result ≡ 4 → Rose (S.faults src.old) (S.faults src.new)
@@ -86,10 +107,7 @@ pub fn run_plain<S: Source, K: Sink, X: Sink>(
             say(err, b"pengines: input too long\n");
             3
         }
-        Err(SessionStop::NotBuilt) => {
-            say(err, b"pengines: not built\n");
-            3
-        }
+        Err(SessionStop::Refused(fault)) => say_refusal(alloc, err, &fault),
         Err(SessionStop::ReadFault) => {
             say(err, b"pengines: read fault\n");
             4

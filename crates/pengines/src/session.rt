@@ -3,23 +3,24 @@ ghost use Rattle.std.specs.Prelude.{◌≡◌, ◌≤◌, ◌⊎◌, ◌++◌, [
 ghost use Rattle.std.specs.Io.KnownBytes.{Appends};
 ghost use Rattle.outside.specs.Faults.{Rose};
 ghost use Rattle.pengines.specs.Output.{AppendsPart, AppendsLines, SaysMemory, line, text_of_lines};
-ghost use Rattle.pengines.specs.Session.{Done, DonePart, DoneToMemory, IsTooLong, IsNotBuilt, Unchanged};
+ghost use Rattle.pengines.specs.Session.{Done, DonePart, DoneToMemory, IsTooLong, IsRefused, Unchanged};
+ghost use Rattle.request_text.specs.declared.fault.ScriptFault.{ScriptFault as Fault};
 
 use crate::input::{InputStop, read_input};
-use crate::output::{WriteFault, say, write_all};
+use crate::output::{WriteFault, say, with_line_end, write_all};
 use crate::printing::Printing;
-use crate::script::read_script;
 use outside::{Sink, Source};
+use request_text::{ScriptFault, read_script};
 use std::alloc::Global;
 use term_core::Memory;
 
 /// Why a session ended before its last line.
-#[derive(Clone, Copy, Debug, PartialEq, Eq)]
+#[derive(Debug, Drop)]
 pub enum SessionStop {
     /// The input has more than 16,777,216 bytes.
     TooLong,
-    /// The input is no script, or none that is built yet.
-    NotBuilt,
+    /// The input is no script.
+    Refused(ScriptFault),
     /// The source failed.
     ReadFault,
     /// The sink failed.
@@ -98,8 +99,8 @@ pub fn run_session<S: Source, K: Sink>(
         IsTooLong S.left src.old src.new
         × Unchanged K.taken out.old out.new }
 
-    ensures not_built { IsErrOf result SessionStop.NotBuilt →
-        IsNotBuilt S.left src.old src.new
+    ensures refused { (fault : Fault) → IsErrOf result (SessionStop.Refused fault) →
+        IsRefused S.left src.old src.new fault
         × Unchanged K.taken out.old out.new }
 
     ensures read_fault { IsErrOf result SessionStop.ReadFault →
@@ -115,8 +116,10 @@ pub fn run_session<S: Source, K: Sink>(
         ⊎ DoneToMemory S.left K.taken K.faults src.old src.new out.old out.new }
 {
     let input = read_input(alloc, src)?;
-    let Some(script) = read_script(alloc, &input)? else {
-        return Err(SessionStop::NotBuilt);
+    let script = match read_script(alloc, &input) {
+        Ok(script) => script,
+        Err(ScriptFault::Memory) => return Err(SessionStop::Memory),
+        Err(fault) => return Err(SessionStop::Refused(fault)),
     };
     let printing = Printing::new(alloc, script)?;
     match print_script(alloc, printing, out) {
@@ -169,12 +172,4 @@ fn print_lines<K: Sink>(
         write_all(out, &line)?;
     }
     Ok(())
-}
-
-/// A text and its line end.
-fn with_line_end(mut text: Vec<u8>) -> Result<Vec<u8>, Memory>
-    ensures { IfOk result (λ l. l.items ≡ line text.items) }
-{
-    text.push(b'\n')?;
-    Ok(text)
 }

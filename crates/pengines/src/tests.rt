@@ -52,16 +52,51 @@ const DONE: Case = Case {
 const REFUSED: Case = Case {
     status: 3,
     written: b"",
-    said: b"pengines: not built\n",
     ..DONE
 };
 
-const CASES: [Case; 25] = [
+const CASES: [Case; 53] = [
     DONE,
     Case {
         name: "rules",
         input: b"p(X) :- q(X), r(X). q(a). q(b). r(b).\n---\nask(p(X))\n",
         written: b"create\nsuccess([p(b)],false)\ndestroy\n",
+        ..DONE
+    },
+    Case {
+        name: "chunks of two",
+        input: b"p(a). p(b). p(c).\n---\nask(p(X),[chunk(2)])\nnext\n",
+        written: b"create\nsuccess([p(a),p(b)],true)\nsuccess([p(c)],false)\ndestroy\n",
+        ..DONE
+    },
+    Case {
+        name: "no source",
+        input: b"---\nask(fail)\n",
+        written: b"create\nfailure\ndestroy\n",
+        ..DONE
+    },
+    Case {
+        name: "a pengine that stays",
+        input: b"---\ncreate([destroy(false)])\nnext\nask(true)\n",
+        written: b"create\nerror(protocol_error(next))\nsuccess([true],false)\n",
+        ..DONE
+    },
+    Case {
+        name: "a limit of a thousand steps",
+        input: b"l :- l.\n---\ncreate([limit(1000)])\nask(l)\n",
+        written: b"create\nlimit\ndestroy\n",
+        ..DONE
+    },
+    Case {
+        name: "a limit of three steps",
+        input: b"---\ncreate([limit(3),destroy(false)])\nask((true,true))\nask((true,true,true))\n",
+        written: b"create\nsuccess([(true,true)],false)\nlimit\n",
+        ..DONE
+    },
+    Case {
+        name: "an operator",
+        input: b":- op(700, xfx, likes). sam likes pie.\n---\nask(likes(sam,W))\n",
+        written: b"create\nsuccess([likes(sam,pie)],false)\ndestroy\n",
         ..DONE
     },
     Case {
@@ -72,8 +107,8 @@ const CASES: [Case; 25] = [
     },
     Case {
         name: "a request after the end",
-        input: b"p(a). p(b). p(c).\n---\nask(p(c))\nnext\n",
-        written: b"create\nsuccess([p(c)],false)\ndestroy\nended\n",
+        input: b"p(a). p(b). p(c).\n---\nask(p(c))\nnext\ndestroy\n",
+        written: b"create\nsuccess([p(c)],false)\ndestroy\nended\nended\n",
         ..DONE
     },
     Case {
@@ -83,15 +118,39 @@ const CASES: [Case; 25] = [
         ..DONE
     },
     Case {
-        name: "an ask and a stop that don't fit",
-        input: b"p(a). p(b).\n---\nstop\nask(p(X))\nask(p(a))\nnext",
-        written: b"create\nerror(protocol_error(stop))\nsuccess([p(a)],true)\nerror(protocol_error(ask))\nsuccess([p(b)],false)\ndestroy\n",
+        name: "an ask, a stop and a reply that don't fit",
+        input: b"p(a). p(b).\n---\nstop\nask(p(X))\nask(p(a))\nrespond(f(Y))\nnext",
+        written: b"create\nerror(protocol_error(stop))\nsuccess([p(a)],true)\nerror(protocol_error(ask))\nerror(protocol_error(respond))\nsuccess([p(b)],false)\ndestroy\n",
         ..DONE
     },
     Case {
-        name: "the limit of steps",
-        input: b"l :- l.\n---\nask(l)\n",
-        written: b"create\nlimit\ndestroy\n",
+        name: "an abort outside of a query, and one in a query",
+        input: b"p(a). p(b).\n---\ncreate([destroy(false)])\nabort\nask(p(X))\nabort\nnext\n",
+        written: b"create\nsuccess([p(a)],true)\nabort\nerror(protocol_error(next))\n",
+        ..DONE
+    },
+    Case {
+        name: "an abort that ends the pengine",
+        input: b"p(a). p(b).\n---\nask(p(X))\nabort\nabort\n",
+        written: b"create\nsuccess([p(a)],true)\nabort\ndestroy\nended\n",
+        ..DONE
+    },
+    Case {
+        name: "destroy",
+        input: b"p(a). p(b).\n---\nask(p(X))\ndestroy\nnext\n",
+        written: b"create\nsuccess([p(a)],true)\ndestroy\nended\n",
+        ..DONE
+    },
+    Case {
+        name: "the chunk of a next",
+        input: b"p(a). p(b). p(c). p(d).\n---\nask(p(X),[template(f(X))])\nnext(2)\nnext\n",
+        written: b"create\nsuccess([f(a)],true)\nsuccess([f(b),f(c)],true)\nsuccess([f(d)],false)\ndestroy\n",
+        ..DONE
+    },
+    Case {
+        name: "comments, empty lines, ends and carriage returns",
+        input: b"p(a).\r\n---\r\n% first\r\n\r\ncreate([chunk(3),destroy(true)]).\r\n% then\r\nask( p( X ) ) .\r\n",
+        written: b"create\nsuccess([p(a)],false)\ndestroy\n",
         ..DONE
     },
     Case {
@@ -113,6 +172,66 @@ const CASES: [Case; 25] = [
         ..DONE
     },
     Case {
+        name: "no line that parts them",
+        input: b"p(a).\nask(p(a)).\n",
+        written: b"create\n",
+        ..DONE
+    },
+    Case {
+        name: "nothing",
+        input: b"",
+        written: b"create\n",
+        ..DONE
+    },
+    Case {
+        name: "a term that would hold itself",
+        input: b"---\nask(X=f(X))\n",
+        written: b"create\nfailure\ndestroy\n",
+        ..DONE
+    },
+    Case {
+        name: "a cut inside of a call",
+        input: b"t(1). t(2).\n---\nask((t(X),call(!),X>1))\n",
+        written: b"create\nsuccess([(t(2),call(!),2>1)],false)\ndestroy\n",
+        ..DONE
+    },
+    Case {
+        name: "a ball behind a catch that was left",
+        input: b"m(1). m(2).\n---\nask((catch(m(X),_,true),X>1,throw(t)))\n",
+        written: b"create\nerror(t)\ndestroy\n",
+        ..DONE
+    },
+    Case {
+        name: "a ball behind an open chunk",
+        input: b"q(1). q(2). q(_) :- throw(oops).\n---\nask(q(X),[chunk(5)])\nnext\n",
+        written: b"create\nsuccess([q(1),q(2)],true)\nerror(oops)\ndestroy\n",
+        ..DONE
+    },
+    Case {
+        name: "goals that are none",
+        input: b"---\ncreate([destroy(false)])\nask(X)\nask(call((a,1)))\n",
+        written: b"create\nerror(error(instantiation_error,none))\nerror(error(type_error(callable,(a,1)),none))\n",
+        ..DONE
+    },
+    Case {
+        name: "quotients",
+        input: b"---\nask((A is -7 // 2,B is -7 mod 2,C is -7 rem 2,D is -7 div 2,E is 6 / 2),[template([A,B,C,D,E])])\n",
+        written: b"create\nsuccess([[-3,1,-1,-4,3]],false)\ndestroy\n",
+        ..DONE
+    },
+    Case {
+        name: "integers that are too large",
+        input: b"---\ncreate([destroy(false)])\nask(X is 170141183460469231731687303715884105727+1)\nask(X is 1 << 127)\n",
+        written: b"create\nerror(error(evaluation_error(int_overflow),(is)/2))\nerror(error(evaluation_error(int_overflow),(is)/2))\n",
+        ..DONE
+    },
+    Case {
+        name: "what has no value",
+        input: b"---\ncreate([destroy(false)])\nask(X is 7 / 2)\nask(X is 5 // 0)\nask(X is a + 1)\n",
+        written: b"create\nerror(error(evaluation_error(undefined),(is)/2))\nerror(error(evaluation_error(zero_divisor),(is)/2))\nerror(error(type_error(evaluable,a/0),(is)/2))\n",
+        ..DONE
+    },
+    Case {
         name: "other word",
         word: "sessions",
         status: 2,
@@ -121,53 +240,110 @@ const CASES: [Case; 25] = [
         ..DONE
     },
     Case {
-        name: "nothing",
-        input: b"",
+        name: "an integer out of range",
+        input: b"---\nask(X = 170141183460469231731687303715884105728)\n",
+        said: b"pengines: line 1 refused at byte 8\n",
         ..REFUSED
     },
     Case {
-        name: "no rule",
-        input: b"p(a).\nask(p(a))\n",
+        name: "a directive",
+        input: b":- dynamic(p/1).\n---\n",
+        said: b"pengines: source refused at clause 1\n",
+        ..REFUSED
+    },
+    Case {
+        name: "a predicate that is built in",
+        input: b"append(a). true :- fail.\n---\n",
+        said: b"pengines: source refused at clause 2\n",
         ..REFUSED
     },
     Case {
         name: "an unclosed clause",
         input: b"p(a.\n---\nask(p(a))\n",
+        said: b"pengines: source refused at byte 3\n",
         ..REFUSED
     },
     Case {
-        name: "a head that is built in",
-        input: b"true :- p.\n---\n",
+        name: "a clause without an end",
+        input: b"p(a)\n---\nask(p(a))\n",
+        said: b"pengines: source refused at byte 5\n",
         ..REFUSED
     },
     Case {
-        name: "an operator in place of a name",
-        input: b"mod(a).\n---\n",
+        name: "the source before the lines",
+        input: b"p(.\n---\nagain\n",
+        said: b"pengines: source refused at byte 2\n",
+        ..REFUSED
+    },
+    Case {
+        name: "a carriage return alone",
+        input: b"p(a).\r\n---\r",
+        said: b"pengines: source refused at byte 11\n",
         ..REFUSED
     },
     Case {
         name: "no request of this form",
-        input: b"p(a).\n---\nask(p(a))\nagain\n",
+        input: b"p(a).\n---\n% one\nask(p(a))\n\nagain\n",
+        said: b"pengines: line 4 refused at byte 0\n",
         ..REFUSED
     },
     Case {
-        name: "an ask of a variable",
-        input: b"p(a).\n---\nask(X)\n",
+        name: "the first of two lines",
+        input: b"---\nask(p(a)\nagain\n",
+        said: b"pengines: line 1 refused at byte 8\n",
         ..REFUSED
     },
     Case {
-        name: "an empty request line",
-        input: b"p(a).\n---\nask(p(a))\n\nnext\n",
+        name: "a second create",
+        input: b"---\ncreate([])\ncreate([])\n",
+        said: b"pengines: line 2 refused at byte 0\n",
         ..REFUSED
     },
     Case {
-        name: "a carriage return",
-        input: b"p(a).\r\n---\r\nask(p(a))\r\n",
+        name: "a create behind a request",
+        input: b"---\nabort\ncreate([])\n",
+        said: b"pengines: line 2 refused at byte 0\n",
         ..REFUSED
     },
     Case {
-        name: "no text, and the refusal is lost",
+        name: "an option that stands twice",
+        input: b"---\nask(true,[chunk(1),chunk(2)])\n",
+        said: b"pengines: line 1 refused at byte 0\n",
+        ..REFUSED
+    },
+    Case {
+        name: "a chunk of nothing",
+        input: b"---\ncreate([chunk(0)])\n",
+        said: b"pengines: line 1 refused at byte 0\n",
+        ..REFUSED
+    },
+    Case {
+        name: "a limit that is too great",
+        input: b"---\ncreate([limit(1001)])\n",
+        said: b"pengines: line 1 refused at byte 0\n",
+        ..REFUSED
+    },
+    Case {
+        name: "a list without an end",
+        input: b"---\nask(true,[template(a)|T])\n",
+        said: b"pengines: line 1 refused at byte 0\n",
+        ..REFUSED
+    },
+    Case {
+        name: "an option with a wrong value",
+        input: b"---\ncreate([destroy(yes)])\n",
+        said: b"pengines: line 1 refused at byte 0\n",
+        ..REFUSED
+    },
+    Case {
+        name: "no text",
         input: b"p(a).\n---\nask(p(\x80))\n",
+        said: b"pengines: source refused at byte 16\n",
+        ..REFUSED
+    },
+    Case {
+        name: "the refusal is lost",
+        input: b"---\nagain\n",
         err_fails: &[1],
         said: b"",
         ..REFUSED

@@ -18,3 +18,6 @@ mod values;
 pub use by_name::call;
 pub use offer::{Offer, Offers};
 pub use outcome::Outcome;
+
+#[cfg(test)]
+mod tests;

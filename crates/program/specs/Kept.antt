@@ -1,5 +1,5 @@
 -- Clauses, as the code keeps them.
-use Rattle.std.specs.Prelude.{◌≡◌, ℕ, List, map, length, refl}
+use Rattle.std.specs.Prelude.{ℕ, List, refl}
 use Rattle.std.specs.Coded.{Coded, code_by, coded×, coded_ℕ, coded_list}
 use Rattle.term_core.specs.Tree.{Tree}
 use Rattle.term_core.specs.Flat.{tree_code}

@@ -1,11 +1,11 @@
 -- The machine over what the code keeps is the machine over readings.
-use Rattle.std.specs.Prelude.{◌≡◌, refl, ℕ, zero, suc, ◌+◌, ◌^◌, Bool, true, false, not, ◌||◌, nat_lt, nat_le, pos, neg_ℤ, List, [], ◌∷◌, ◌++◌, map, length, replicate, encode_utf8, Option, Some, None, Result, Ok, Err, if◌then◌else◌, codes}
+use Rattle.std.specs.Prelude.{◌≡◌, refl, ℕ, ◌+◌, ◌^◌, Bool, true, false, not, ◌||◌, nat_lt, nat_le, List, [], ◌∷◌, ◌++◌, map, length, replicate, Option, Some, None, Result, Ok, Err, if◌then◌else◌}
 use Rattle.std.proofs.Common.{arith, ap, ◌∙◌, sym, append_assoc, append-nil}
 use Rattle.std.proofs.lemmas.Bool.{false≢true}
 use Rattle.std.proofs.lemmas.Grind.{replicate_next}
 use Rattle.term_core.specs.declared.node.Node.{Node}
-use Rattle.term_core.specs.declared.node.Node.TheVariants.{Atom, Comp, Int}
-use Rattle.term_core.specs.Tree.{Tree, atom, Trees, no_trees, tree, arity}
+use Rattle.term_core.specs.declared.node.Node.TheVariants.{Atom, Comp}
+use Rattle.term_core.specs.Tree.{Tree, atom, arity}
 use Rattle.op_table.specs.Table.{right_of}
 use Rattle.op_table.specs.declared.op.Op.{Op}
 use Rattle.prolog_grammar.specs.declared.grammar.fault.Fault.{Fault}

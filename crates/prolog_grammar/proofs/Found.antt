@@ -1,5 +1,5 @@
 -- What is found from the nodes of what was read.
-use Rattle.std.specs.Prelude.{◌≡◌, refl, ℕ, ◌<◌, ◌≤◌, Bool, true, false, ◌&&◌, nat_le, List, [], ◌∷◌, length, Option, Some, None, Result, Ok, Err, if◌then◌else◌, reverse}
+use Rattle.std.specs.Prelude.{◌≡◌, refl, ℕ, ◌<◌, Bool, true, false, ◌&&◌, nat_le, List, [], ◌∷◌, length, Option, Result, Ok, Err, if◌then◌else◌, reverse}
 use Rattle.std.specs.List.{list_all}
 use Rattle.std.proofs.Common.{arith, ap, ◌∙◌, sym, subst}
 use Rattle.std.proofs.lemmas.Bool.{false≢true}
@@ -16,12 +16,12 @@ use Rattle.prolog_grammar.specs.declared.grammar.lexeme.Placed.{Placed}
 use Rattle.prolog_grammar.specs.declared.grammar.frame.Now.TheVariants.{Wants}
 use Rattle.prolog_grammar.specs.Readings.{Bytes, Reading, meaning}
 use Rattle.prolog_grammar.specs.Machine.{start}
-use Rattle.prolog_grammar.specs.Read.{reading, nodes_of, has_arguments, is_within, limited, and_then, Tells}
+use Rattle.prolog_grammar.specs.Read.{reading, nodes_of, has_arguments, limited, and_then, Tells}
 use Rattle.prolog_grammar.specs.Stack.{postorder}
 use Rattle.prolog_grammar.specs.Stack as stack
 use Rattle.prolog_grammar.specs.Turn.{turned}
 use Rattle.prolog_grammar.proofs.Agree.{nodes, told, reads_as}
-use Rattle.prolog_grammar.proofs.Complete.{both, pair}
+use Rattle.prolog_grammar.proofs.Complete.{both}
 use Rattle.prolog_grammar.proofs.Turning.{turned_all}
 
 or_list : {A : Type 0} → A → Result A Fault → A

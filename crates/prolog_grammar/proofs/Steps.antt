@@ -1,12 +1,12 @@
 -- The stack of frames as a vector, whose last is the innermost, and a turn of the loop behind an operand.
-use Rattle.std.specs.Prelude.{◌≡◌, refl, ℕ, zero, suc, ◌≤◌, Bool, true, false, nat_le, not, ◌||◌, Result, Ok, Err, IfOk, ◌-◌, ◌+◌, ◌<◌, List, [], ◌∷◌, ◌++◌, length, reverse, slice_get, Option, Some, None, ◌⊎◌}
-use Rattle.std.proofs.Common.{ap, ◌∙◌, sym, arith, get_or, inl, inr, length-append}
+use Rattle.std.specs.Prelude.{◌≡◌, refl, ℕ, true, false, nat_le, Result, Ok, Err, IfOk, ◌-◌, List, [], ◌∷◌, ◌++◌, length, reverse, slice_get, Option, Some, None, ◌⊎◌}
+use Rattle.std.proofs.Common.{ap, ◌∙◌, arith, inl, inr, length-append}
 use Rattle.std.proofs.lemmas.List.{reverse-append}
 use Rattle.std.proofs.lemmas.Option.{slice_get-get_or}
 use Rattle.std.proofs.Math.Seq.{get_or-append_seam}
 use Rattle.term_core.specs.declared.node.Node.{Node}
 use Rattle.op_table.specs.declared.op.Op.{Op}
-use Rattle.prolog_grammar.specs.Stack.{most, most_at, Outcome, behind, chosen, going_on, at_bottom, named, joined, by_prefix, infix_row, stands_alone, begins}
+use Rattle.prolog_grammar.specs.Stack.{most, most_at, behind, chosen, going_on, at_bottom, named, joined, infix_row, stands_alone, begins}
 use Rattle.prolog_grammar.specs.Readings.{Bytes, joins}
 use Rattle.prolog_grammar.specs.declared.grammar.frame.Frame.{Frame}
 use Rattle.prolog_grammar.specs.declared.grammar.frame.Frame.TheVariants.{Prefix}

@@ -1,10 +1,9 @@
 -- A tree's nodes with arguments first become its nodes with functors first.
-use Rattle.std.specs.Prelude.{◌≡◌, refl, ℕ, zero, suc, ◌+◌, ◌-◌, ◌<◌, Bool, true, false, nat_lt, List, [], ◌∷◌, ◌++◌, reverse, length, if◌then◌else◌}
+use Rattle.std.specs.Prelude.{◌≡◌, refl, ℕ, suc, ◌+◌, ◌-◌, true, false, nat_lt, List, [], ◌∷◌, ◌++◌, reverse}
 use Rattle.std.proofs.Common.{arith, ap, ◌∙◌, sym, append_assoc, append-nil}
 use Rattle.std.proofs.lemmas.List.{reverse-append, reverse-reverse}
 use Rattle.term_core.specs.declared.node.Node.{Node}
-use Rattle.term_core.specs.declared.node.Node.TheVariants.{Var, Int, Atom, Comp}
-use Rattle.term_core.specs.Preorder.{count_of}
+use Rattle.term_core.specs.declared.node.Node.TheVariants.{Comp}
 use Rattle.term_core.specs.Tree.{Tree, variable, integer, atom, compound, Trees, no_trees, tree, arity}
 use Rattle.term_core.specs.Flat.{flatten, flatten_all}
 use Rattle.prolog_grammar.specs.Stack.{postorder, postorder_all}

@@ -1,12 +1,11 @@
 -- The fault is at the first token that no continuation allows.
-use Rattle.std.specs.Prelude.{◌≡◌, refl, ℕ, zero, suc, Bool, true, false, List, [], ◌∷◌, ◌++◌, Option, Some, None}
+use Rattle.std.specs.Prelude.{◌≡◌, refl, true, false, List, [], ◌∷◌, ◌++◌, Option, Some, None}
 use Rattle.std.proofs.Common.{ap, ◌∙◌, sym}
 use Rattle.std.proofs.lemmas.Bool.{false≢true}
 use Rattle.op_table.specs.declared.op.Op.{Op}
-use Rattle.prolog_grammar.specs.declared.grammar.lexeme.Word.{Word}
 use Rattle.prolog_grammar.specs.declared.grammar.lexeme.Lexeme.{Lexeme}
 use Rattle.prolog_grammar.specs.declared.grammar.lexeme.Lexeme.TheVariants.{Variable, Close, CloseList, CloseCurly}
-use Rattle.prolog_grammar.specs.Readings.{Bytes, Reading, Unknown, Plain, Call, Round, Curly, Listed, Partial, Before, Between, one, priority, IsReading}
+use Rattle.prolog_grammar.specs.Readings.{Bytes, Reading, Unknown, Plain, Call, Round, Curly, Listed, Partial, Before, Between, one, priority}
 use Rattle.prolog_grammar.specs.Machine.{filled, Frame, InRound, InCurly, InList, InTail, InCall, BehindPrefix, BehindInfix, most, State, Wants, Named, Has, Stuck, start, is_stuck, run_to}
 use Rattle.prolog_grammar.specs.Machine as m
 use Rattle.prolog_grammar.specs.Laws.{HasContinuation, LeastFaults}

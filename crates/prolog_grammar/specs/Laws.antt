@@ -1,5 +1,5 @@
 -- The laws of the grammar and the machine.
-use Rattle.std.specs.Prelude.{◌≡◌, Bool, true, false, List, [], ◌∷◌, ◌++◌, Option, Some, None}
+use Rattle.std.specs.Prelude.{◌≡◌, true, false, List, ◌++◌, Option, Some}
 use Rattle.op_table.specs.declared.op.Op.{Op}
 use Rattle.prolog_grammar.specs.declared.grammar.lexeme.Lexeme.{Lexeme}
 use Rattle.prolog_grammar.specs.Readings.{Bytes, Reading, IsReading}

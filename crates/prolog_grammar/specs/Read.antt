@@ -1,8 +1,8 @@
 -- What is read from the tokens of a term, or where the fault is.
-use Rattle.std.specs.Prelude.{◌≡◌, ℕ, ◌^◌, Bool, true, false, not, ◌&&◌, nat_lt, nat_le, List, [], ◌∷◌, Option, Some, None, Result, Ok, Err, if◌then◌else◌, ⊤}
+use Rattle.std.specs.Prelude.{◌≡◌, ℕ, ◌^◌, Bool, true, false, ◌&&◌, nat_lt, nat_le, List, [], ◌∷◌, Option, Some, None, Result, Ok, Err, if◌then◌else◌, ⊤}
 use Rattle.std.specs.List.{list_all}
 use Rattle.term_core.specs.declared.node.Node.{Node}
-use Rattle.term_core.specs.declared.node.Node.TheVariants.{Var, Int, Atom, Comp}
+use Rattle.term_core.specs.declared.node.Node.TheVariants.{Comp}
 use Rattle.term_core.specs.Tree.{Tree, depth}
 use Rattle.term_core.specs.Flat.{flatten}
 use Rattle.op_table.specs.declared.op.Op.{Op}
@@ -10,7 +10,7 @@ use Rattle.prolog_grammar.specs.declared.grammar.lexeme.Placed.{Placed}
 use Rattle.prolog_grammar.specs.declared.grammar.fault.Fault.{Fault}
 use Rattle.prolog_grammar.specs.declared.grammar.fault.Fault.TheVariants.{Syntax, Nesting, IntRange, Memory}
 use Rattle.prolog_grammar.specs.Readings.{Bytes, Reading, Digits, Negative, meaning}
-use Rattle.prolog_grammar.specs.Machine.{State, Wants, Named, Has, Stuck, start, is_stuck, step, finish}
+use Rattle.prolog_grammar.specs.Machine.{State, Has, start, is_stuck, step, finish}
 
 -- an integer's value, -2^127 to 2^127 - 1
 abbrev pub is_sized : Reading → Bool

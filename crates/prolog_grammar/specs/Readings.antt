@@ -1,5 +1,5 @@
 -- The grammar of terms (ISO 13211-1, 6.3) as a type of readings: how a term is written, by its cases.
-use Rattle.std.specs.Prelude.{◌≡◌, ℕ, zero, suc, ◌-◌, Bool, true, false, not, ◌&&◌, ◌||◌, nat_le, ℤ, pos, neg_ℤ, List, [], ◌∷◌, map, is_some, Option, Some, None, codes, ⊤, encode_utf8}
+use Rattle.std.specs.Prelude.{◌≡◌, ℕ, Bool, true, false, not, ◌&&◌, ◌||◌, nat_le, pos, neg_ℤ, List, [], ◌∷◌, is_some, Option, Some, None, codes, ⊤, encode_utf8}
 use Rattle.term_core.specs.Tree.{Tree, variable, integer, atom, compound, Trees, no_trees, tree}
 use Rattle.op_table.specs.declared.op.Op.{Op}
 use Rattle.op_table.specs.declared.op.OpKind.TheVariants.{Xfy}

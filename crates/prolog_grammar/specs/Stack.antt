@@ -1,5 +1,5 @@
 -- The machine over what the code keeps: names, operators and counts of what is open, the innermost first, and the nodes of what was read, arguments before their functor.
-use Rattle.std.specs.Prelude.{ℕ, ◌+◌, ◌^◌, Bool, true, false, not, ◌||◌, nat_lt, nat_le, pos, neg_ℤ, List, [], ◌∷◌, ◌++◌, Option, Some, None, Result, Ok, Err, if◌then◌else◌, codes, replicate, map, length, reverse, encode_utf8}
+use Rattle.std.specs.Prelude.{ℕ, ◌+◌, ◌^◌, Bool, true, false, not, ◌||◌, nat_lt, nat_le, pos, neg_ℤ, List, [], ◌∷◌, ◌++◌, Option, Some, None, Result, if◌then◌else◌, codes, replicate, map, length, reverse, encode_utf8}
 use Rattle.term_core.specs.declared.node.Node.{Node}
 use Rattle.term_core.specs.declared.node.Node.TheVariants.{Var, Int, Atom, Comp}
 use Rattle.term_core.specs.Tree.{Tree, variable, integer, atom, compound, Trees, no_trees, tree, arity}

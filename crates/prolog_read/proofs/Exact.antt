@@ -1,5 +1,5 @@
 -- What is found is what a text reads as, both ways.
-use Rattle.std.proofs.Common.{◌≡◌, ◌∙◌, ℕ, zero, suc, ◌≤◌, Bool, true, false, List, [], ◌∷◌, length, map, Option, Some, None, Result, Ok, Err, refl, ap, sym, subst, arith, if◌then◌else◌, All}
+use Rattle.std.proofs.Common.{◌≡◌, ◌∙◌, ℕ, ◌≤◌, Bool, true, false, List, [], ◌∷◌, length, map, Result, Ok, Err, refl, ap, sym, subst, arith, if◌then◌else◌, All}
 use Rattle.std.proofs.lemmas.List.Elements.{All-cons}
 use Rattle.std.proofs.lemmas.List.{get_or-map, length-map}
 use Rattle.std.specs.List.{list_all}
@@ -12,7 +12,7 @@ use Rattle.op_table.specs.Table.{Table}
 use Rattle.prolog_lex.specs.Lexed.{tokens_of}
 use Rattle.prolog_grammar.specs.declared.grammar.fault.Fault.{Fault}
 use Rattle.prolog_grammar.specs.declared.grammar.fault.Fault.TheVariants.{Nesting}
-use Rattle.prolog_grammar.specs.Readings.{Bytes, Reading, IsReading, meaning}
+use Rattle.prolog_grammar.specs.Readings.{Bytes, Reading, meaning}
 use Rattle.prolog_grammar.specs.Machine.{start}
 use Rattle.prolog_grammar.specs.Read.{is_within, limited, first_place}
 use Rattle.prolog_grammar.specs.Read as grammar
@@ -23,7 +23,7 @@ use Rattle.prolog_read.specs.Variables.{Names, IsNumbered}
 use Rattle.prolog_read.specs.Lexemes.{nothing_before, placed}
 use Rattle.prolog_read.specs.Reads.{prefix_of, infix_of, before_end, from_end, has_range, names_of, IsTermOf, Reads}
 use Rattle.prolog_read.specs.Clauses.{Sentence, sentences, obeyed, AreClauses, ReadsClauses}
-use Rattle.prolog_read.specs.Outcome.{ReadAs, told, and_then, lexed, term_of, alone, only_term, term_read, refused_at, reading_of, with_first, unended, clauses_of, clauses, clauses_read, read_as, IsRefusal, Tells}
+use Rattle.prolog_read.specs.Outcome.{ReadAs, told, and_then, lexed, term_of, alone, only_term, term_read, refused_at, with_first, clauses_of, clauses, clauses_read, read_as, IsRefusal, Tells}
 use Rattle.prolog_read.proofs.Faults.{ok_err, ok_same, refusal_told}
 use Rattle.prolog_read.proofs.Numbering.{term_numbered}
 use Rattle.prolog_read.proofs.Limits.{sized_range, reading_run, run_reading, start_sized}

@@ -1,9 +1,6 @@
 -- Faults, from those of the lexer and the grammar.
-use Rattle.std.proofs.Common.{◌≡◌, ◌∙◌, ℕ, Bool, true, false, List, [], ◌∷◌, Result, Ok, Err, refl, ap, sym, IsOk}
+use Rattle.std.proofs.Common.{◌≡◌, ℕ, Bool, true, false, Result, Ok, Err, refl, ap, IsOk}
 use Rattle.std.proofs.lemmas.Bool.{false≢true}
-use Rattle.term_core.specs.Tokens.{Token}
-use Rattle.term_core.specs.Tree.{Tree}
-use Rattle.prolog_lex.specs.declared.token.LexFault.TheVariants as lexer
 use Rattle.prolog_grammar.specs.declared.grammar.fault.Fault.{Fault}
 use Rattle.prolog_grammar.specs.declared.grammar.fault.Fault.TheVariants as grammar
 use Rattle.prolog_grammar.specs.Readings.{Reading}

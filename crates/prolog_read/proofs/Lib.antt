@@ -1,6 +1,7 @@
 pub mod Exact
 pub mod Faults
 pub mod Indexing
+pub mod Least
 pub mod Limits
 pub mod Numbering
 pub mod Placing

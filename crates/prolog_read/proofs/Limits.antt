@@ -1,5 +1,5 @@
 -- Integers and open brackets within their limits: what the machine checks at each token is what holds of the term.
-use Rattle.std.proofs.Common.{◌≡◌, ◌∙◌, ℕ, zero, suc, ◌≤◌, ◌^◌, Bool, true, false, not, ◌&&◌, ◌||◌, nat_lt, nat_le, ℤ, pos, negsuc, neg_ℤ, List, [], ◌∷◌, ◌++◌, map, All, Option, Some, None, Result, Ok, Err, if◌then◌else◌, refl, ap, sym, subst, arith}
+use Rattle.std.proofs.Common.{◌≡◌, ◌∙◌, ℕ, zero, suc, ◌≤◌, ◌^◌, Bool, true, false, ◌&&◌, nat_lt, nat_le, pos, neg_ℤ, List, [], ◌∷◌, Option, Some, None, Result, Ok, if◌then◌else◌, refl, ap, sym, subst, arith}
 use Rattle.std.specs.List.{list_all}
 use Rattle.std.proofs.Math.Bool.{and_assoc, and_comm, and-true}
 use Rattle.std.proofs.lemmas.Bool.{false≢true}
@@ -9,9 +9,8 @@ use Rattle.term_core.specs.Tree.{Tree, tree, no_trees, atom}
 use Rattle.term_core.specs.declared.node.Node.TheVariants.{Int}
 use Rattle.term_core.specs.Flat.{flatten, flatten_all}
 use Rattle.op_table.specs.declared.op.Op.{Op}
-use Rattle.op_table.specs.Table.{right_of}
 use Rattle.prolog_grammar.specs.declared.grammar.fault.Fault.{Fault}
-use Rattle.prolog_grammar.specs.declared.grammar.fault.Fault.TheVariants.{Syntax, Nesting, IntRange}
+use Rattle.prolog_grammar.specs.declared.grammar.fault.Fault.TheVariants.{Syntax, Nesting}
 use Rattle.prolog_grammar.specs.declared.grammar.lexeme.Word.{Word}
 use Rattle.prolog_grammar.specs.declared.grammar.lexeme.Placed.{Placed}
 use Rattle.prolog_grammar.specs.declared.grammar.lexeme.Lexeme.{Lexeme}
@@ -23,6 +22,7 @@ use Rattle.prolog_grammar.specs.Machine as m
 use Rattle.prolog_grammar.specs.Read.{is_sized, has_sized, refusal, unless, ok_or, reading}
 use Rattle.prolog_grammar.proofs.Complete.{both, pair, none_some}
 use Rattle.prolog_grammar.proofs.Sound.{some_same, stuck}
+use Rattle.prolog_read.specs.Lexemes.{lexemes_of}
 use Rattle.prolog_read.specs.Reads.{has_range, IsShallow}
 use Rattle.prolog_read.proofs.Faults.{ok_err, ok_same}
 
@@ -275,9 +275,6 @@ module _ (prefix infix_op : Bytes → Option Op) where
       (backward (sized_state S) T (keeps_step k S) (not_stuck ks T r e) (run_sized ks T r e s)).0
 
   -- ---- the reading of placed tokens
-
-  abbrev lexemes_of : List Placed → List Lexeme
-  lexemes_of ps = map (λ p. p.lexeme) ps
 
   -- a token that isn't refused
   pub record Accepted (p : Placed) (T : State) : Type 0 where

@@ -1,16 +1,13 @@
 -- The variables of a term that is read are numbered from 0 without a gap, by first occurrence.
-use Rattle.std.proofs.Common.{◌≡◌, ◌∙◌, ℕ, zero, suc, ◌+◌, ◌<◌, ◌≤◌, max, Bool, true, false, not, ◌||◌, ◌==◌, nat_lt, cond, List, [], ◌∷◌, ◌++◌, map, Option, Some, None, if◌then◌else◌, unwrap_or, refl, ap, sym, subst, arith, append_assoc, append-nil}
+use Rattle.std.proofs.Common.{◌≡◌, ◌∙◌, ℕ, zero, suc, ◌<◌, ◌≤◌, max, Bool, true, false, ◌||◌, ◌==◌, nat_lt, cond, List, [], ◌∷◌, ◌++◌, map, Option, Some, None, if◌then◌else◌, refl, ap, sym, subst, arith, append_assoc, append-nil}
 use Rattle.std.specs.List.{list_any}
 use Rattle.std.proofs.lemmas.List.Folds.{list_any-append}
-use Rattle.std.specs.Option.{is_some}
 use Rattle.std.specs.Str.{bytes_eq}
 use Rattle.std.specs.Prelude.{codes}
-use Rattle.std.proofs.lemmas.Bool.{false≢true}
 use Rattle.term_core.specs.Tokens.{Kind, name_token, quoted_token, variable_token, integer_token, text_token, open_token, close_token, open_list_token, close_list_token, open_curly_token, close_curly_token, comma_token, bar_token, end_token, Token, Value, name_value, variable_value, integer_value, text_value, no_value}
-use Rattle.term_core.specs.Tree.{Tree, Trees, no_trees, tree, atom}
-use Rattle.term_core.specs.Variables.{occurrences, all_occurrences, with_new, distinct_after, variables, above_all, first_free}
+use Rattle.term_core.specs.Tree.{Tree, atom}
+use Rattle.term_core.specs.Variables.{occurrences, all_occurrences, with_new, distinct_after, above_all}
 use Rattle.op_table.specs.declared.op.Op.{Op}
-use Rattle.prolog_grammar.specs.declared.grammar.lexeme.Placed.{Placed}
 use Rattle.prolog_grammar.specs.declared.grammar.lexeme.Lexeme.{Lexeme}
 use Rattle.prolog_grammar.specs.declared.grammar.lexeme.Lexeme.TheVariants.{Name, Integer, Variable, Text, Open, Close, OpenList, CloseList, OpenCurly, CloseCurly, Comma, Bar}
 use Rattle.prolog_grammar.specs.Readings.{Bytes, Reading, Unknown, Digits, Negative, Letters, Plain, Call, Round, Curly, Listed, Partial, Before, Between, Readings, one, and, yield, elements, letters, meaning, meanings, cells, IsReading}

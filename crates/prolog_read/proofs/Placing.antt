@@ -1,8 +1,7 @@
 -- A turn of the loop over a term's tokens.
-use Rattle.std.proofs.Common.{◌≡◌, ◌∙◌, ℕ, suc, ◌+◌, ◌<◌, ◌≤◌, Bool, true, false, List, [], ◌∷◌, ◌++◌, length, drop, map, Ok, All, refl, ap, sym, arith, get_or, append_assoc, append-nil}
+use Rattle.std.proofs.Common.{◌≡◌, ◌∙◌, ◌<◌, true, false, List, [], ◌∷◌, ◌++◌, length, drop, Ok, refl, ap, arith, get_or, append_assoc}
 use Rattle.std.proofs.lemmas.List.{get_or-map, length-map}
 use Rattle.std.proofs.lemmas.Bool.{false≢true}
-use Rattle.std.specs.List.{Contains}
 use Rattle.prolog_lex.specs.declared.token.Token.{Token}
 use Rattle.prolog_lex.specs.Lexed.{tokens_of, token_of}
 use Rattle.prolog_grammar.specs.Readings.{Bytes}

@@ -1,6 +1,5 @@
 -- Tokens split at their ends, and clauses behind those that were read.
-use Rattle.std.proofs.Common.{◌≡◌, ◌∙◌, ℕ, zero, suc, ◌≤◌, ◌<◌, Bool, true, false, List, [], ◌∷◌, ◌++◌, length, take, drop, map, Result, Ok, Err, refl, ap, sym, arith, append_assoc, All, if◌then◌else◌, cond, not, ◌+◌, get_or}
-use Rattle.std.proofs.lemmas.Bool.{false≢true}
+use Rattle.std.proofs.Common.{◌≡◌, ◌∙◌, ℕ, suc, ◌≤◌, ◌<◌, Bool, true, false, List, [], ◌∷◌, ◌++◌, length, take, drop, Result, Ok, Err, refl, ap, sym, arith, append_assoc, if◌then◌else◌, cond, not, ◌+◌, get_or}
 use Rattle.term_core.specs.Tokens as lex
 use Rattle.op_table.specs.Table.{Table}
 use Rattle.prolog_lex.specs.declared.token.Token.{Token}
@@ -10,7 +9,7 @@ use Rattle.prolog_grammar.specs.Readings.{Bytes}
 use Rattle.prolog_read.specs.declared.fault.ReadFault.{ReadFault}
 use Rattle.prolog_read.specs.Reads.{is_end, before_end, from_end}
 use Rattle.prolog_read.specs.Clauses.{Sentences, sentences, with_token, obeyed}
-use Rattle.prolog_read.specs.Outcome.{ReadAs, Answer, alone, only_term, clauses_of, clauses, unended, place_of, reading_of, refused_at, term_of, and_then, with_first, Tells}
+use Rattle.prolog_read.specs.Outcome.{ReadAs, alone, only_term, clauses_of, clauses, unended, place_of, reading_of, refused_at, term_of, and_then, with_first, Tells}
 use Rattle.prolog_read.specs.declared.fault.ReadFault.TheVariants.{Lex, Syntax, Nesting, Memory}
 use Rattle.prolog_read.specs.Views.{tokens_in, is_inner}
 

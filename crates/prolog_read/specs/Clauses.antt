@@ -1,5 +1,5 @@
 -- The clauses of a text: terms that each have an end, and the operators that they declare.
-use Rattle.std.specs.Prelude.{◌≡◌, ℕ, ℤ, ◌&&◌, List, [], ◌∷◌, Ok, Err, Result, Option, Some, None, if◌then◌else◌, codes}
+use Rattle.std.specs.Prelude.{◌≡◌, ℕ, ℤ, List, [], ◌∷◌, Ok, Err, Result, Option, Some, None, if◌then◌else◌, codes}
 use Rattle.std.specs.Str.{bytes_eq}
 use Rattle.term_core.specs.Tokens.{Token}
 use Rattle.term_core.specs.Tree.{Tree, integer, atom, compound, Trees, no_trees, tree}

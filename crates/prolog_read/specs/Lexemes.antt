@@ -1,7 +1,7 @@
 -- The lexemes of a term's tokens: what the grammar sees of them.
 use Rattle.std.specs.Prelude.{ℕ, suc, ◌-◌, ◌==◌, ◌&&◌, Bool, true, false, List, [], ◌∷◌, map, Option, Some, None, if◌then◌else◌, codes, slice_range}
 use Rattle.std.specs.Str.{chars, bytes_eq}
-use Rattle.term_core.specs.Tokens.{Kind, name_token, quoted_token, variable_token, integer_token, text_token, open_token, close_token, open_list_token, close_list_token, open_curly_token, close_curly_token, comma_token, bar_token, end_token, Token, Value, name_value, variable_value, integer_value, text_value, no_value, value}
+use Rattle.term_core.specs.Tokens.{Kind, name_token, open_token, close_token, open_list_token, close_list_token, open_curly_token, close_curly_token, comma_token, Token, Value, name_value, variable_value, integer_value, text_value, no_value, value}
 use Rattle.prolog_grammar.specs.declared.grammar.lexeme.Placed.{Placed}
 use Rattle.prolog_grammar.specs.declared.grammar.lexeme.Word.{Word}
 use Rattle.prolog_grammar.specs.declared.grammar.lexeme.Lexeme.{Lexeme}
@@ -128,5 +128,8 @@ behind_all text b (t ∷ u ∷ ts) =
     if is_pair t.kind u.kind then behind_all text (behind_pair b u) ts
     else behind_all text (behind text b t) (u ∷ ts)
 
+abbrev pub lexemes_of : List Placed → List Lexeme
+lexemes_of ps = map (λ p. p.lexeme) ps
+
 abbrev pub lexemes : Bytes → List Token → List Lexeme
-lexemes text ts = map (λ p. p.lexeme) (placed text nothing_before ts)
+lexemes text ts = lexemes_of (placed text nothing_before ts)

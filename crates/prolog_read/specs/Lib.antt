@@ -1,4 +1,5 @@
 pub mod Clauses
+pub mod Least
 pub mod Lexemes
 pub mod Outcome
 pub mod Reads

@@ -18,8 +18,8 @@ use Rattle.prolog_read.specs.declared.fault.ReadFault.{ReadFault}
 use Rattle.prolog_read.specs.declared.fault.ReadFault.TheVariants.{Lex, Syntax, Nesting, Memory}
 use Rattle.prolog_read.specs.Variables.{Names}
 use Rattle.prolog_read.specs.Lexemes.{nothing_before, placed}
-use Rattle.prolog_read.specs.Reads.{prefix_of, infix_of, is_end, before_end, from_end, names_of}
-use Rattle.prolog_read.specs.Clauses.{Sentence, Sentences, sentences, obeyed}
+use Rattle.prolog_read.specs.Reads.{prefix_of, infix_of, before_end, from_end, names_of}
+use Rattle.prolog_read.specs.Clauses.{Sentence, sentences, obeyed}
 
 -- a term with the names of its variables
 abbrev pub ReadAs : Type 0

@@ -1,11 +1,11 @@
 -- What a text reads as (ISO 13211-1, 6.2 and 6.3).
-use Rattle.std.specs.Prelude.{◌≡◌, ℕ, ◌≤◌, Bool, true, false, ℤ, pos, negsuc, nat_lt, ◌^◌, List, [], ◌∷◌, length, map, All, Ok, if◌then◌else◌, codes, Result, Err, Option, Some, None}
+use Rattle.std.specs.Prelude.{◌≡◌, ◌≤◌, Bool, true, false, ℤ, pos, negsuc, nat_lt, ◌^◌, List, [], ◌∷◌, length, All, Ok, if◌then◌else◌, Option}
 use Rattle.std.specs.List.{list_all}
 use Rattle.term_core.specs.Tokens.{Kind, end_token, Token}
 use Rattle.term_core.specs.Tree.{Tree}
 use Rattle.term_core.specs.Flat.{flatten}
 use Rattle.term_core.specs.declared.node.Node.{Node}
-use Rattle.term_core.specs.declared.node.Node.TheVariants.{Var, Int, Atom, Comp}
+use Rattle.term_core.specs.declared.node.Node.TheVariants.{Int}
 use Rattle.op_table.specs.Table.{Table, row}
 use Rattle.op_table.specs.declared.op.Op.{Op}
 use Rattle.prolog_lex.specs.Lexed.{tokens_of}

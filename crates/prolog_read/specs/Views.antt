@@ -1,10 +1,9 @@
 -- What the code's values stand for.
-use Rattle.std.specs.Prelude.{◌≡◌, ℕ, Bool, not, List, map, All, Ok}
-use Rattle.std.specs.List.{Contains}
+use Rattle.std.specs.Prelude.{◌≡◌, ℕ, Bool, not, List, map, All}
 use Rattle.std.specs.BTreeMap.{get_by_text}
 use Rattle.term_core.specs.Tokens as lex
 use Rattle.prolog_lex.specs.declared.token.Token.{Token}
-use Rattle.prolog_lex.specs.Lexed.{kind_of, tokens_of, token_of, IsTokenOf}
+use Rattle.prolog_lex.specs.Lexed.{kind_of, token_of, IsTokenOf}
 use Rattle.prolog_grammar.specs.Readings.{Bytes}
 use Rattle.prolog_read.specs.Variables.{Numbering, lookup}
 use Rattle.prolog_read.specs.Lexemes as spec

@@ -3,6 +3,7 @@ ghost use Rattle.term_core.specs.Tree.{Tree};
 ghost use Rattle.op_table.specs.Table.{iso_prefix, iso_infix, Table};
 ghost use Rattle.prolog_read.specs.Variables.{Names, IsNumbered};
 ghost use Rattle.prolog_read.specs.Reads.{Reads, is_end, before_end, from_end};
+ghost use Rattle.prolog_read.specs.Least.{SyntaxAt, SourceSyntaxAt, IfSyntax};
 ghost use Rattle.prolog_read.specs.Clauses.{ReadsClauses, iso, declared, obeyed};
 ghost use Rattle.prolog_read.specs.Outcome.{term_read, clauses_read, term_of, reading_of, read_as, place_of, only_term, clauses, IsRefusal, Tells};
 ghost use Rattle.std.specs.List.{prefix_len};
@@ -112,6 +113,7 @@ pub fn read_term(alloc: Global, text: &str, ops: &Ops) -> Result<ReadTerm, ReadF
     ensures reads { IfOk result (λ r. Reads ops.now text.now r.term r.names) }
     ensures numbered { IfOk result (λ r. IsNumbered r.term) }
     ensures fault { IfErr result (Tells (term_read ops.now text.now)) }
+    ensures syntax { IfErr result (λ e. IfSyntax e (SyntaxAt ops.now text.now)) }
     ensures refused { IfErr result (λ e. IsRefusal e → (t : Tree) (names : Names) → Reads ops.now text.now t names → ⊥) }
 {
     let tokens = tokens(alloc, text)?;
@@ -190,6 +192,7 @@ pub fn read_clauses(alloc: Global, text: &str) -> Result<Vec<ReadTerm>, ReadFaul
     ensures reads { IfOk result (λ v. ReadsClauses iso text.now (map read_as v.items)) }
     ensures numbered { IfOk result (λ v. All (λ r. IsNumbered r.term) v.items) }
     ensures fault { IfErr result (Tells (clauses_read iso text.now)) }
+    ensures syntax { IfErr result (λ e. IfSyntax e (SourceSyntaxAt iso text.now)) }
     ensures refused { IfErr result (λ e. IsRefusal e → (xs : List (Tree × Names)) → ReadsClauses iso text.now xs → ⊥) }
 {
     let tokens = tokens(alloc, text)?;

@@ -4,8 +4,8 @@ use std::alloc::{AllocError, Global};
 use std::test::Fail;
 use term_core::{Node, ReadTerm};
 
-// Texts of one term, and the nodes of each, functors first, with the names of its variables; or its fault.
-static TERMS: [(&str, &str); 195] = [
+// Texts of one term, and its nodes, functors first, with the names of its variables; or its fault. These are of operators.
+static OPERATORS: [(&str, &str); 98] = [
     ("a :- b", ":-/2 a b "),
     ("a --> b", "-->/2 a b "),
     ("a ; b", ";/2 a b "),
@@ -104,6 +104,10 @@ static TERMS: [(&str, &str); 195] = [
     ("'|'", "| "),
     ("a|b", "Syntax { at: 1 }"),
     ("(a|b)", "Syntax { at: 2 }"),
+];
+
+// The others.
+static TERMS: [(&str, &str); 97] = [
     ("foo", "foo "),
     ("'hello world'", "hello world "),
     ("''", " "),
@@ -363,31 +367,82 @@ static LIMITS: [(&str, &str, &str, u32, &str, &str); 7] = [
     ("f", "(", ")", 4000, "", "Nesting { at: 4001 }"),
 ];
 
+type Rows = &'static [(&'static str, &'static str)];
+
+fn operators() -> Rows {
+    &OPERATORS
+}
+
+fn terms() -> Rows {
+    &TERMS
+}
+
+fn sources() -> Rows {
+    &CLAUSES
+}
+
+// The first text of a table that isn't read as it says.
+fn misread_term(alloc: Global, ops: &Ops, rows: Rows) -> Result<Option<&'static str>, AllocError> {
+    for (text, expected) in rows {
+        if term(alloc, text, ops)?.as_str() != *expected {
+            return Ok(Some(text));
+        }
+    }
+    Ok(None)
+}
+
+fn misread_clauses(alloc: Global, rows: Rows) -> Result<Option<&'static str>, AllocError> {
+    for (text, expected) in rows {
+        if clauses(alloc, text)?.as_str() != *expected {
+            return Ok(Some(text));
+        }
+    }
+    Ok(None)
+}
+
+// A term of so many pieces, between two texts.
+fn shaped(
+    alloc: Global,
+    before: &str,
+    pieces: (u32, &str, &str),
+    behind: &str,
+) -> Result<String, AllocError> {
+    let (count, front, back) = pieces;
+    let middle = around(alloc, count, front, back)?;
+    format!(in alloc; "{before}{middle}{behind}")
+}
+
+// The first shape whose limit isn't as the table says.
+fn misplaced_limit(alloc: Global, ops: &Ops) -> Result<Option<&'static str>, AllocError> {
+    for (before, front, back, count, behind, fault) in LIMITS {
+        let most = shaped(alloc, before, (count, front, back), behind)?;
+        let more = shaped(alloc, before, (count + 1, front, back), behind)?;
+        if read_term(alloc, most.as_str(), ops).is_err()
+            || term(alloc, more.as_str(), ops)?.as_str() != fault
+        {
+            return Ok(Some(front));
+        }
+    }
+    Ok(None)
+}
+
 #[test]
 fn texts_are_read(rt: HostRuntime) -> Result<(), Fail> {
     let alloc = rt.alloc();
     let ops = Ops::iso(alloc)?;
-    for (text, expected) in TERMS {
-        assert_eq!(rt; term(alloc, text, &ops)?.as_str(), expected);
-    }
-    for (text, expected) in CLAUSES {
-        assert_eq!(rt; clauses(alloc, text)?.as_str(), expected);
-    }
-    for (before, front, back, count, behind, fault) in LIMITS {
-        let most = around(alloc, count, front, back)?;
-        let most = format!(in alloc; "{before}{most}{behind}")?;
-        assert!(rt; read_term(alloc, most.as_str(), &ops).is_ok());
-        let more = around(alloc, count + 1, front, back)?;
-        let more = format!(in alloc; "{before}{more}{behind}")?;
-        assert_eq!(rt; term(alloc, more.as_str(), &ops)?.as_str(), fault);
-    }
+    assert_eq!(rt; misread_term(alloc, &ops, operators())?, None);
+    assert_eq!(rt; misread_term(alloc, &ops, terms())?, None);
+    assert_eq!(rt; misread_clauses(alloc, sources())?, None);
+    assert_eq!(rt; misplaced_limit(alloc, &ops)?, None);
     // What is behind a term goes before its depth, but a clause's depth before the next clause.
-    let deep = around(alloc, 1001, "f(", ")")?;
-    let two = format!(in alloc; "{deep}. )")?;
+    let text = shaped(alloc, "", (1001, "f(", ")"), ". )")?;
     assert_eq!(rt;
-        term(alloc, two.as_str(), &ops)?.as_str(),
+        term(alloc, text.as_str(), &ops)?.as_str(),
         "Syntax { at: 3006 }"
     );
-    assert_eq!(rt; clauses(alloc, two.as_str())?.as_str(), "Nesting { at: 0 }");
+    assert_eq!(rt;
+        clauses(alloc, text.as_str())?.as_str(),
+        "Nesting { at: 0 }"
+    );
     Ok(())
 }

@@ -12,7 +12,7 @@ use Rattle.solve_model.specs.declared.search.Choice.{Choice}
 use Rattle.solve_model.specs.declared.search.Frame.{Frame}
 use Rattle.solve_model.specs.declared.search.Frame.TheVariants as frame
 use Rattle.solve_model.specs.Run.{World, Bindings, Ran, Used, Failed, Item, Place, Branch, after, ends, at_failed, in_order, body_branch, offer_branch, offered}
-use Rattle.solve_model.specs.Search.{IsMatch, FirstMatch, NextResult, place_of, items_of, alternatives, chosen, found_branch, taken_results, runs, resumed, at_frame}
+use Rattle.solve_model.specs.Search.{IsMatch, FirstMatch, place_of, items_of, alternatives, chosen, found_branch, taken_results, runs, resumed, at_frame}
 use Rattle.solve_model.proofs.Resume.{no_alternative, last_alternative, first_alternative}
 
 -- what a pushed frame does

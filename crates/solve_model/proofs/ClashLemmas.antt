@@ -1,5 +1,5 @@
 -- A goal and a head whose first arguments differ have no unifier.
-use Rattle.std.proofs.Common.{◌≡◌, ℕ, suc, ◌+◌, ◌<◌, Bool, true, false, not, ◌&&◌, ◌==◌, List, [], ◌∷◌, ◌++◌, length, get_or, bytes_eq, Option, None, refl, ap, sym, ◌∙◌, arith}
+use Rattle.std.proofs.Common.{◌≡◌, ℕ, suc, ◌+◌, ◌<◌, Bool, true, false, ◌&&◌, ◌==◌, List, [], ◌∷◌, ◌++◌, length, get_or, bytes_eq, None, refl, ap, sym, ◌∙◌, arith}
 use Rattle.std.specs.Ordering.{is_eq, int_cmp}
 use Rattle.std.proofs.lemmas.Bool.{not-true}
 use Rattle.term_core.specs.declared.node.Node.{Node}
@@ -7,7 +7,7 @@ use Rattle.term_core.specs.Tree.{Tree, variable, integer, atom, compound, Trees,
 use Rattle.term_core.specs.Flat.{flatten, flatten_all}
 use Rattle.term_core.specs.Variables.{map_variables, map_all_variables, renamed}
 use Rattle.term_core.specs.Substitution.{substituted, all_substituted, value_of}
-use Rattle.term_core.specs.Unification.{Step, clash, reduce, beside, same_step, pair_step}
+use Rattle.term_core.specs.Unification.{clash, beside, same_step, pair_step}
 use Rattle.term_core.specs.Unifier.{Pairs, solution, mgu, at_clashing, at_reduce}
 use Rattle.solve_model.specs.Run.{Bindings}
 use Rattle.term_core.specs.Parts.{symbol_of}

@@ -1,5 +1,5 @@
 -- A cut drops the frames above its level: at the ends that a run has after the cut, they do nothing.
-use Rattle.std.proofs.Common.{◌≡◌, ℕ, suc, Bool, true, false, List, [], ◌∷◌, ◌++◌, ◌<◌, ◌≤◌, ◌==◌, min, if◌then◌else◌, nat_lt, nat_le, ne_eqb, ap, refl, sym, ◌∙◌, arith, append-nil}
+use Rattle.std.proofs.Common.{◌≡◌, ℕ, suc, Bool, true, false, List, [], ◌∷◌, ◌++◌, ◌<◌, ◌≤◌, ◌==◌, min, if◌then◌else◌, ne_eqb, ap, refl, sym, ◌∙◌, arith, append-nil}
 use Rattle.std.proofs.lemmas.Bool.{false≢true}
 use borrow.Author.Tests.{ltb-true, leb-true}
 use Rattle.term_core.specs.declared.pi.Pi.{Pi}

@@ -4,7 +4,7 @@ use Rattle.std.proofs.lemmas.Bool.{eqb-true}
 use Rattle.std.proofs.lemmas.List.{drop-map, at_drop_more}
 use Rattle.term_core.specs.Tree.{Tree}
 use Rattle.term_core.specs.Variables.{renamed}
-use Rattle.term_core.specs.Unifier.{mgu}
+use Rattle.term_core.specs.Unifier.{mgu, at_solved}
 use Rattle.program.specs.declared.clause.Clause as kept
 use Rattle.program.specs.Clauses.{Clause}
 use Rattle.program.specs.Kept.{clause_of}
@@ -58,3 +58,8 @@ module _ (cs : List Clause) (goal : Tree) (p : Place) where
 pub none_of : (r : Option Bindings) → ((s : Bindings) → r ≡ Some s → ⊥) → None ≡ r
 none_of None h = refl
 none_of (Some s) h = absurd (h s refl)
+
+-- no pair to unify
+pub unified_none : (ps : List (Tree × Tree)) (s : Bindings) → (length ps == 0) ≡ true → Some s ≡ mgu ps s
+unified_none [] s h = sym (at_solved [] s refl)
+unified_none (p ∷ ps) s h = absurd (omega (arith, eqb-true (length (p ∷ ps)) 0 h))

@@ -6,9 +6,9 @@ use Rattle.term_core.specs.Parts.{arguments_of}
 use Rattle.term_core.specs.Substitution.{apply}
 use Rattle.term_core.specs.Unifier.{mgu}
 use Rattle.program.specs.Clauses.{Clause, clauses_of}
-use Rattle.solve_model.specs.Goals.{Row, Succeeds, Fails, Cuts, Both, Either, IfElse, Test, Differ, Call, Catch, Throw, Predicate, row_of, true_goal, Ready, Runs, Throws, ready, with_arguments}
+use Rattle.solve_model.specs.Goals.{Row, Succeeds, Fails, Cuts, Both, Either, IfElse, Test, Differ, Call, Catch, Throw, Predicate, row_of, Ready, Runs, Throws, ready, with_arguments}
 use Rattle.builtin_table.specs.Primitives.{Outcome, Offers, Ball, Unknown}
-use Rattle.solve_model.specs.Run.{World, Bindings, Item, Goal, Commit, ExitCatch, End, Failed, Cut, Thrown, Waits, Spent, Outside, Place, Used, Ran, Runner, Branch, ends, after, at_failed, at_cut, at_condition, at_catch, cut_to, in_order, if_ready, entered, performed, called, locally, either_of, branched, differs, recovered_by, recovered, caught, goal_step, item_step, some_left}
+use Rattle.solve_model.specs.Run.{World, Bindings, Item, Goal, Commit, ExitCatch, End, Failed, Cut, Thrown, Waits, Spent, Outside, Place, Used, Ran, Runner, Branch, ends, after, at_failed, at_cut, at_condition, at_catch, cut_to, in_order, if_ready, performed, called, locally, branched, differs, recovered_by, caught, goal_step, item_step, some_left}
 
 -- what is done at an end passes on a run that stopped for want of steps or of a reply
 pub record PassesStops (k : End → Used → Ran) : Type 0 where

@@ -6,7 +6,6 @@ use Rattle.term_core.specs.Tree.{Tree}
 use Rattle.term_core.specs.Parts.{arguments_of}
 use Rattle.term_core.specs.Substitution.{apply}
 use Rattle.term_core.specs.Variables.{numbered}
-use Rattle.builtin_table.specs.Primitives.{Outcome}
 use Rattle.program.specs.Clauses.{Clause}
 use Rattle.solve_model.specs.declared.answers.Trace.{Trace}
 use Rattle.solve_model.specs.declared.answers.TraceMark.{TraceMark}

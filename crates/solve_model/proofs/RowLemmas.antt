@@ -1,17 +1,16 @@
 -- What a goal's symbol and arguments tell of its row.
-use Rattle.std.proofs.Common.{◌≡◌, ◌≢◌, ℕ, suc, ◌+◌, ◌-◌, ◌<◌, ◌≤◌, ℤ, Bool, true, false, ◌&&◌, ◌==◌, nat_lt, nat_le, List, [], ◌∷◌, ◌++◌, length, codes, bytes_eq, refl, ap, sym, ◌∙◌, arith, if◌then◌else◌, cond}
+use Rattle.std.proofs.Common.{◌≡◌, ◌≢◌, ℕ, suc, ◌≤◌, ℤ, Bool, true, false, ◌&&◌, ◌==◌, nat_lt, nat_le, List, [], ◌∷◌, ◌++◌, length, codes, bytes_eq, refl, ap, sym, ◌∙◌, arith, if◌then◌else◌}
 use Rattle.std.specs.Cmp.Lexicographic.{bytes_decides}
 use Rattle.std.proofs.lemmas.Bool.{false_from_ne_true, and_parts, eqb-true, le-leb}
 use borrow.Author.Tests.{leb-true}
 use Rattle.term_core.specs.declared.node.Node.{Node}
 use Rattle.term_core.specs.declared.node.Node.TheVariants as node
-use Rattle.term_core.specs.declared.pi.Pi.{Pi}
 use Rattle.term_core.specs.Tree.{Tree, variable, integer, atom, compound, Trees, no_trees, tree, tree_list, trees_of, arity, greatest}
 use Rattle.term_core.specs.Parts.{symbol_of, arguments_of}
 use Rattle.term_core.specs.Variables.{above_all}
 use Rattle.builtin_table.specs.Errors.{one_argument, two_arguments}
 use Rattle.program.specs.Bodies.{is_body}
-use Rattle.solve_model.specs.Goals.{Row, Ready, with_arguments, ready_compound, Call, Predicate, Runs, Throws, ready, not_callable, unbound_goal, indicator, row_named, row_of, row_of_atom, row_of_one, row_of_two, row_of_three, row_of_arguments, row_of_compound, is_call}
+use Rattle.solve_model.specs.Goals.{Row, Ready, with_arguments, ready_compound, Call, Predicate, Runs, Throws, ready, not_callable, unbound_goal, row_named, row_of, row_of_atom, row_of_one, row_of_two, row_of_three, row_of_arguments, row_of_compound, is_call}
 use Rattle.solve_model.specs.Rows.{indicator_of, is_call_of}
 
 pub other_text : (f g : List ℕ) → (f ≡ g → ⊥) → bytes_eq f g ≡ false

@@ -1,11 +1,11 @@
 -- The laws of runs: the depth doesn't matter where it is enough, a run of some items is the step over the run itself, and more steps or replies lengthen the marks.
-use Rattle.std.proofs.Common.{◌≡◌, ℕ, zero, suc, ◌+◌, ◌≤◌, ◌<◌, Bool, true, false, cond, List, [], ◌∷◌, ◌++◌, nat_lt, nat_le, filter, refl, ap, arith, ◌⊎◌, inl, inr, subst, sym, append_assoc, append-nil, ◌∙◌}
+use Rattle.std.proofs.Common.{◌≡◌, ℕ, zero, suc, ◌+◌, ◌≤◌, ◌<◌, Bool, true, false, cond, List, [], ◌∷◌, ◌++◌, nat_le, refl, ap, arith, ◌⊎◌, inl, inr, subst, sym, append_assoc, append-nil, ◌∙◌}
 use Rattle.std.proofs.lemmas.Bool.{lt-ltb, le-ltb, le-leb, lt-leb, cases_lt}
 use Rattle.std.proofs.lemmas.List.Elements.{filter-append}
 use Rattle.term_core.specs.Tree.{Tree}
 use Rattle.term_core.specs.Variables.{numbered}
 use Rattle.solve_model.specs.Goals.{Ready, Runs, Throws, ready}
-use Rattle.solve_model.specs.Run.{World, Item, Goal, End, Failed, Thrown, Waits, Spent, Mark, Answered, Place, Used, Ran, Runner, ends, marked, after, at_cut, item_step, one_more, taken, run, start, unused, query}
+use Rattle.solve_model.specs.Run.{World, Item, Goal, End, Failed, Thrown, Waits, Spent, Mark, Place, Used, Ran, Runner, ends, after, at_cut, item_step, one_more, taken, run, start, unused, query}
 use Rattle.solve_model.specs.Laws.{Begins, IsStopped, widened, MoreOnlyAdds, marks_within, MarksStand}
 use Rattle.solve_model.proofs.Relate.{PassesStops, NotWaits, IsKept, item_kept, cut_kept, cut_passes}
 

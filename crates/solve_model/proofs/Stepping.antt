@@ -1,10 +1,9 @@
 -- Two alternatives that are given as branches.
 use Rattle.std.proofs.Common.{◌≡◌, Bool, true, List, [], ◌∷◌, ◌++◌, ap, refl, ◌∙◌}
-use Rattle.term_core.specs.Tree.{Tree}
 use Rattle.solve_model.specs.declared.search.Branch as kept
 use Rattle.solve_model.specs.declared.search.Frame.{Frame}
 use Rattle.solve_model.specs.declared.search.Frame.TheVariants as frame
-use Rattle.solve_model.specs.Run.{World, Ran, Used, End, Failed, Cut, Thrown, Waits, Spent, Outside, Item, Place, Branch, Runner, after, ends, at_failed, in_order}
+use Rattle.solve_model.specs.Run.{World, Ran, Used, End, Failed, Cut, Thrown, Waits, Spent, Outside, Item, Place, after, at_failed, in_order}
 use Rattle.solve_model.specs.Search.{place_of, items_of, runs, resumed}
 use Rattle.solve_model.proofs.Choosing.{IsPushed}
 use Rattle.solve_model.proofs.Resume.{last_alternative, first_alternative}

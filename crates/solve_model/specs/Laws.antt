@@ -1,7 +1,7 @@
 -- Laws of queries under other limits.
 use Rattle.std.specs.Prelude.{◌≡◌, ℕ, ◌+◌, ◌⊎◌, List, ◌++◌, filter, nat_le}
 use Rattle.term_core.specs.Tree.{Tree}
-use Rattle.solve_model.specs.Run.{World, Mark, End, Waits, Spent, Ran, query}
+use Rattle.solve_model.specs.Run.{World, Mark, End, Waits, Spent, query}
 
 -- the world with this many more steps, and with these replies after the others
 abbrev pub widened : ℕ → List Tree → World → World

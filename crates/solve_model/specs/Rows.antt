@@ -4,7 +4,7 @@ use Rattle.std.specs.Ordering.{is_eq, int_cmp}
 use Rattle.term_core.specs.declared.node.Node.{Node}
 use Rattle.term_core.specs.declared.node.Node.TheVariants as node
 use Rattle.term_core.specs.declared.pi.Pi.{Pi}
-use Rattle.term_core.specs.Tree.{Tree, variable, integer, atom, compound, Trees, arity}
+use Rattle.term_core.specs.Tree.{Tree, variable, integer, atom, compound, arity}
 use Rattle.solve_model.specs.declared.goals.Row.{Row}
 use Rattle.solve_model.specs.declared.goals.Row.TheVariants as row
 use Rattle.solve_model.specs.declared.ready.Ready.{Ready}

@@ -1,7 +1,7 @@
 -- Depth-first resolution (ISO 13211-1, 7.7). A run takes the first item of its list again and again; each item taken is one step.
-use Rattle.std.specs.Prelude.{ℕ, zero, suc, ◌+◌, min, max, Bool, true, false, ◌||◌, ◌&&◌, ◌==◌, List, [], ◌∷◌, ◌++◌, map, nat_lt, if◌then◌else◌, Option, Some, None, bytes_eq}
+use Rattle.std.specs.Prelude.{ℕ, zero, suc, ◌+◌, min, max, Bool, true, false, ◌||◌, ◌==◌, List, [], ◌∷◌, ◌++◌, map, nat_lt, if◌then◌else◌, Option, Some, None}
 use Rattle.term_core.specs.declared.pi.Pi.{Pi}
-use Rattle.term_core.specs.Tree.{Tree, variable, integer, atom, compound}
+use Rattle.term_core.specs.Tree.{Tree, variable}
 use Rattle.term_core.specs.Parts.{arguments_of}
 use Rattle.term_core.specs.Variables.{renamed, numbered, first_free}
 use Rattle.term_core.specs.Substitution.{apply}

@@ -1,5 +1,5 @@
 -- A query's run as a trace shows it.
-use Rattle.std.specs.Prelude.{ℕ, Bool, List, map}
+use Rattle.std.specs.Prelude.{ℕ, List, map}
 use Rattle.term_core.specs.Tree.{Tree}
 use Rattle.term_core.specs.Substitution.{apply}
 use Rattle.solve_model.specs.declared.answers.Trace.{Trace}

@@ -11,6 +11,7 @@ ghost use Rattle.solve_model.specs.Rows.{indicator_of, ready_as};
 ghost use Rattle.solve_model.specs.Search.{place_of, items_of, branch_of, chosen, runs, run_of, taken_results, Leaves};
 ghost use Rattle.solve_model.specs.Trace.{world_of};
 
+use crate::bindings::Bindings;
 use crate::frames::push;
 use crate::goals::indicator;
 use crate::items::{catcher, copied_items, deeper, put_first, with_goal};
@@ -21,7 +22,7 @@ use crate::search::{Branch, Choice, End, Frame, Goal, Item, Now, Place, Scope, S
 use prims_tree::{Offers, Outcome};
 use program::{Clause, Program};
 use std::alloc::Global;
-use term_core::{Memory, Pi, Subst, Term};
+use term_core::{Memory, Pi, Term};
 
 // A ball is thrown before these items: a copy of it.
 pub(crate) fn throw(alloc: Global, ball: &Term, items: &[Item]) -> Result<Now, Memory>
@@ -78,7 +79,7 @@ fn body_branch(
     items: Vec<Item>,
     place: &Place,
     more: bool,
-    subst: Subst,
+    subst: Bindings,
 ) -> Result<Branch, Memory>
     ensures { IfOk result (λ b. branch_of b ≡ body_branch_of (clause_of clause.now) (items_of items.items) (place_of place.now) more subst) }
 {
@@ -117,7 +118,6 @@ pub(crate) fn choose(
     let Some(first) = next_match(alloc, clauses, &choice.goal, &choice.place, choice.from)? else {
         return Ok(Now::Ends(End::Failed));
     };
-    stack.work.spend_all(&first.subst)?;
     match next_match(alloc, clauses, &choice.goal, &choice.place, first.at + 1)? {
         None => {
             let Choice {
@@ -126,10 +126,14 @@ pub(crate) fn choose(
                 more,
                 ..
             } = choice;
+            stack.work.spend_step(&place.subst, &first.subst, false)?;
             let branch = body_branch(alloc, first.clause, items, &place, more, first.subst)?;
             Ok(Now::Runs(branch, more))
         }
         Some(second) => {
+            stack
+                .work
+                .spend_step(&choice.place.subst, &first.subst, true)?;
             let items = copied_items(alloc, &choice.items, &mut stack.work)?;
             let branch = body_branch(
                 alloc,
@@ -158,7 +162,6 @@ pub(crate) fn take_result(
 ) -> Result<Now, Memory>
     ensures { IfOk result (λ n. (w : World) (u : Used) → Leaves w stack.old stack.new n u (taken_results w found results u)) }
 {
-    stack.work.spend_all(&found.subst)?;
     let Results {
         mut offers,
         items,
@@ -167,10 +170,12 @@ pub(crate) fn take_result(
     } = results;
     match next_result(alloc, &mut offers, &place)? {
         None => {
+            stack.work.spend_step(&place.subst, &found.subst, false)?;
             let branch = found_branch(found, items, place.level);
             Ok(Now::Runs(branch, more))
         }
         Some(next) => {
+            stack.work.spend_step(&place.subst, &found.subst, true)?;
             let copies = copied_items(alloc, &items, &mut stack.work)?;
             let branch = found_branch(found, copies, place.level);
             let others = Results {
@@ -237,7 +242,7 @@ fn perform(
     ensures { IfOk result (λ n. (w : World) (u : Used) →
         Leaves w stack.old stack.new n u (performed (runs w) (primitive pi.now.name (arguments_of (apply rest.place.subst goal.now)) rest.place.next) pi.now (items_of rest.items.items) (place_of rest.place) more u)) }
 {
-    let goal = goal.apply(alloc, &rest.place.subst)?;
+    let goal = goal.apply(alloc, rest.place.subst.subst())?;
     stack.work.spend(&goal)?;
     let arguments = goal.arguments(alloc)?;
     match prims_tree::call(alloc, pi.name.as_str(), &arguments, rest.place.next)? {

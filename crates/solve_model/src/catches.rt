@@ -15,7 +15,7 @@ use crate::results::Found;
 use crate::search::{Branch, Catcher, End, Frame, Item, Now, Place, Scope, Stack};
 use crate::work::Work;
 use std::alloc::Global;
-use term_core::{Memory, Node, Subst, Term, unify};
+use term_core::{Memory, Node, Subst, Term};
 
 // call/1 to call/8: the goal with these arguments added is run, and a cut in it is local.
 pub(crate) fn call_with(
@@ -29,9 +29,9 @@ pub(crate) fn call_with(
     ensures { IfOk result (λ n. (w : World) (u : Used) →
         Leaves w stack.old stack.new n u (if_ready (with_arguments_tree (apply rest.place.subst goal.now) (map (apply rest.place.subst) added.now)) (items_of rest.items.items) u (λ g. locally (runs w) g (items_of rest.items.items) (place_of rest.place) more u))) }
 {
-    let goal = goal.apply(alloc, &rest.place.subst)?;
+    let goal = goal.apply(alloc, rest.place.subst.subst())?;
     stack.work.spend(&goal)?;
-    let added = applied(alloc, added, &rest.place.subst, &mut stack.work)?;
+    let added = applied(alloc, added, rest.place.subst.subst(), &mut stack.work)?;
     let ready = with_arguments(alloc, goal, added)?;
     let now = call_ready(alloc, ready, rest, more, stack)?;
     Ok(now)
@@ -68,7 +68,7 @@ pub(crate) fn catch(
     ensures { IfOk result (λ n. (w : World) (u : Used) →
         Leaves w stack.old stack.new n u (if_ready (ready (apply rest.place.subst goal.now)) (items_of rest.items.items) u (λ g. caught (runs w) g catching recovery (items_of rest.items.items) (place_of rest.place) more u))) }
 {
-    let goal = goal.apply(alloc, &rest.place.subst)?;
+    let goal = goal.apply(alloc, rest.place.subst.subst())?;
     stack.work.spend(&goal)?;
     match make_ready(alloc, goal)? {
         Ready::Throws(ball) => {
@@ -115,7 +115,7 @@ pub(crate) fn throw_term(
     ensures { IfOk result (λ n. (w : World) (u : Used) →
         Leaves w stack.old stack.new n u (throws (thrown_tree (apply rest.now.place.subst ball.now)) (items_of rest.now.items.items) u)) }
 {
-    let ball = ball.apply(alloc, &rest.place.subst)?;
+    let ball = ball.apply(alloc, rest.place.subst.subst())?;
     stack.work.spend(&ball)?;
     let ball = ball_of(alloc, ball)?;
     let now = throw(alloc, &ball, &rest.items)?;
@@ -151,8 +151,8 @@ pub(crate) fn recover(
         let level = catcher_of(&items);
         return Ok(Now::Ends(End::Thrown(ball, level)));
     };
-    stack.work.spend_all(&found.subst)?;
-    let recovery = recovery.apply(alloc, &found.subst)?;
+    stack.work.spend_step(&place.subst, &found.subst, false)?;
+    let recovery = recovery.apply(alloc, found.subst.subst())?;
     stack.work.spend(&recovery)?;
     let ready = make_ready(alloc, recovery)?;
     let Found { subst, next } = found;
@@ -180,7 +180,7 @@ fn caught_by(
         return Err(Memory);
     }
     let pairs = vec![in alloc; (ball.rename(alloc, place.next)?, catching)]?;
-    let Some(subst) = unify(alloc, &pairs, &place.subst)? else {
+    let Some(subst) = place.subst.unified(alloc, &pairs)? else {
         return Ok(None)
     };
     Ok(Some(Found {

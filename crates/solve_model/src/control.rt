@@ -6,13 +6,14 @@ ghost use Rattle.solve_model.specs.Goals.{ready};
 ghost use Rattle.solve_model.specs.Run.{World, Used, Goal as GoalItem, Commit as CommitItem, after, branched, cut_to, deeper as deeper_place, differs, either_of, if_ready};
 ghost use Rattle.solve_model.specs.Search.{place_of, items_of, runs, Leaves};
 
+use crate::bindings::Bindings;
 use crate::calls::throw;
 use crate::frames::{cut_frames, push};
 use crate::items::{copied_branch, copied_items, deeper, put_first, with_goal};
 use crate::ready::{Ready, make_ready};
 use crate::search::{Branch, Context, Frame, Item, Now, Place, Scope, Stack};
 use std::alloc::Global;
-use term_core::{Memory, Subst, Term, unify};
+use term_core::{Memory, Term};
 
 // A cut: the alternatives above its level are dropped.
 pub(crate) fn cut(scope: Scope, rest: Branch, stack: &mut Stack) -> Result<Now, Memory>
@@ -91,7 +92,7 @@ pub(crate) fn test(
     ensures { IfOk result (λ n. (w : World) (u : Used) →
         Leaves w stack.old stack.new n u (if_ready (ready (apply context.rest.place.subst condition.now)) (items_of context.rest.items.items) u (λ g. branched (runs w) g then otherwise context.scope.level context.scope.more (items_of context.rest.items.items) (place_of context.rest.place) context.more u))) }
 {
-    let condition = condition.apply(alloc, &context.rest.place.subst)?;
+    let condition = condition.apply(alloc, context.rest.place.subst.subst())?;
     stack.work.spend(&condition)?;
     match make_ready(alloc, condition)? {
         Ready::Throws(ball) => {
@@ -117,7 +118,7 @@ pub(crate) fn differ(
         Leaves w stack.old stack.new n u (differs (runs w) (mgu ((first, second) ∷ []) context.rest.place.subst) context.scope.level context.scope.more (items_of context.rest.items.items) (place_of context.rest.place) context.more u)) }
 {
     let pairs = vec![in alloc; (first, second)]?;
-    match unify(alloc, &pairs, &context.rest.place.subst)? {
+    match context.rest.place.subst.unified(alloc, &pairs)? {
         None => {
             let Context { scope, rest, more } = context;
             let branch = with_goal(rest, Term::atom(alloc, "true")?, scope)?;
@@ -133,7 +134,7 @@ pub(crate) fn differ(
 // A condition that has succeeded with this substitution, and then fails; otherwise it succeeds.
 fn fail_later(
     alloc: Global,
-    subst: Subst,
+    subst: Bindings,
     context: Context,
     stack: &mut Stack,
 ) -> Result<Now, Memory>
@@ -141,6 +142,7 @@ fn fail_later(
         Leaves w stack.old stack.new n u (differs (runs w) (Some subst) context.scope.level context.scope.more (items_of context.rest.items.items) (place_of context.rest.place) context.more u)) }
 {
     let Context { scope, rest, more } = context;
+    stack.work.spend_step(&rest.place.subst, &subst, true)?;
     let level = rest.place.level;
     let place = Place {
         subst,

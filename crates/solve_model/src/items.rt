@@ -6,7 +6,7 @@ ghost use Rattle.solve_model.specs.Search.{items_of, item_of, place_of};
 use crate::search::{Branch, Goal, Item, Place, Scope};
 use crate::work::Work;
 use std::alloc::Global;
-use term_core::{Memory, Subst, Term};
+use term_core::{Memory, Term};
 
 // Puts an item before the others.
 pub(crate) fn put_first(items: &mut Vec<Item>, item: Item) -> Result<(), Memory>
@@ -81,22 +81,11 @@ pub(crate) fn copied_items(
     Ok(copies)
 }
 
-fn copied_subst(alloc: Global, subst: &Subst, work: &mut Work) -> Result<Subst, Memory>
-    ensures { IfOk result (λ s. s ≡ subst.now) }
-{
-    work.spend_all(subst)?;
-    let mut copy = Subst::new(alloc);
-    for pair in subst.pairs() {
-        copy.push(pair.0, pair.1.copied(alloc)?)?;
-    }
-    Ok(copy)
-}
-
-pub(crate) fn copied_place(alloc: Global, place: &Place, work: &mut Work) -> Result<Place, Memory>
+pub(crate) fn shared_place(place: &Place) -> Result<Place, Memory>
     ensures { IfOk result (λ p. p ≡ place.now) }
 {
     Ok(Place {
-        subst: copied_subst(alloc, &place.subst, work)?,
+        subst: place.subst.shared()?,
         next: place.next,
         level: place.level,
     })
@@ -112,6 +101,6 @@ pub(crate) fn copied_branch(
 {
     Ok(Branch {
         items: copied_items(alloc, &branch.items, work)?,
-        place: copied_place(alloc, &branch.place, work)?,
+        place: shared_place(&branch.place)?,
     })
 }

@@ -3,6 +3,7 @@
 
 mod answers;
 mod arguments;
+mod bindings;
 mod calls;
 mod catches;
 mod control;

@@ -3,21 +3,22 @@ ghost use Rattle.std.specs.Prelude.{◌≡◌, ℕ, [], ◌∷◌, map, IfOk, Is
 ghost use Rattle.term_core.specs.Unifier.{mgu};
 ghost use Rattle.term_core.specs.Variables.{renamed};
 ghost use Rattle.program.specs.Kept.{clause_of};
-ghost use Rattle.solve_model.specs.Run.{Bindings};
+ghost use Rattle.solve_model.specs.Run.{Bindings as Pairs};
 ghost use Rattle.solve_model.specs.Rows.{nodes_clash as nodes_clash_at};
 ghost use Rattle.solve_model.specs.Search.{place_of, FirstMatch};
 
+use crate::bindings::Bindings;
 use crate::search::Place;
 use program::Clause;
 use std::alloc::Global;
-use term_core::{Memory, Node, Subst, Term, unify};
+use term_core::{Memory, Node, Term};
 
 // A clause with its place among the predicate's clauses, and the substitution that unifies its renamed head with the goal.
 #[derive(Drop)]
 pub(crate) struct Match<'a> {
     pub(crate) clause: &'a Clause,
     pub(crate) at: usize,
-    pub(crate) subst: Subst,
+    pub(crate) subst: Bindings,
 }
 
 // The first of a predicate's clauses, from a place on, whose renamed head unifies with the goal.
@@ -45,7 +46,7 @@ fn unify_head(
     goal: &Term,
     clause: &Clause,
     place: &Place,
-) -> Result<Option<Subst>, Memory>
+) -> Result<Option<Bindings>, Memory>
     ensures { IfOk result (λ s. s ≡ mgu ((goal.now, renamed place.now.next clause.now.head) ∷ []) place.now.subst) }
 {
     if first_arguments_clash(goal, &clause.head) {
@@ -56,12 +57,12 @@ fn unify_head(
     }
     let head = clause.head.rename(alloc, place.next)?;
     let pairs = vec![in alloc; (goal.copied(alloc)?, head)]?;
-    unify(alloc, &pairs, &place.subst)
+    place.subst.unified(alloc, &pairs)
 }
 
 // Whether the first arguments differ, whatever their variables stand for: then nothing is copied.
 fn first_arguments_clash(goal: &Term, head: &Term) -> bool
-    ensures { IsTrue result → (base : ℕ) (s : Bindings) → mgu ((goal.now, renamed base head.now) ∷ []) s ≡ None }
+    ensures { IsTrue result → (base : ℕ) (s : Pairs) → mgu ((goal.now, renamed base head.now) ∷ []) s ≡ None }
 {
     let mine = goal.nodes();
     let other = head.nodes();

@@ -2,15 +2,16 @@
 ghost use Rattle.std.specs.Prelude.{◌≡◌, MatchOption, IfOk};
 ghost use Rattle.solve_model.specs.Search.{place_of, NextResult};
 
+use crate::bindings::Bindings;
 use crate::search::{Item, Place};
 use prims_tree::Offers;
 use std::alloc::Global;
-use term_core::{Memory, Subst, unify};
+use term_core::Memory;
 
 // A result that unifies: the substitution that it gives, and the next variable after it.
 #[derive(Drop)]
 pub(crate) struct Found {
-    pub(crate) subst: Subst,
+    pub(crate) subst: Bindings,
     pub(crate) next: u64,
 }
 
@@ -33,7 +34,7 @@ pub(crate) fn next_result(
 {
     while let Some(offer) = offers.next(alloc)? {
         let next = place.next.checked_add(offer.fresh).ok_or(Memory)?;
-        if let Some(subst) = unify(alloc, offer.pairs.as_slice(), &place.subst)? {
+        if let Some(subst) = place.subst.unified(alloc, offer.pairs.as_slice())? {
             return Ok(Some(Found { subst, next }));
         }
     }

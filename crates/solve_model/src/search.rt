@@ -1,14 +1,15 @@
 // What a search keeps: the branch that runs, and what is done at its end.
 use crate::answers::TraceMark;
+use crate::bindings::Bindings;
 use crate::results::{Found, Results};
 use crate::work::Work;
-use term_core::{List, Pi, Subst, Term};
+use term_core::{List, Pi, Term};
 
 // Where a branch stands.
 #[derive(Drop)]
 pub(crate) struct Place {
     // what its variables stand for
-    pub(crate) subst: Subst,
+    pub(crate) subst: Bindings,
     // the next number for a variable
     pub(crate) next: u64,
     // the next level for a cut

@@ -5,6 +5,7 @@ ghost use Rattle.solve_model.specs.Search.{end_of, place_of, traced_after, used_
 ghost use Rattle.solve_model.specs.Trace.{world_of, traced};
 
 use crate::answers::{Trace, TraceEnd, TraceMark};
+use crate::bindings::Bindings;
 use crate::ready::{Ready, make_ready};
 use crate::search::{Branch, End, Frame, Goal, Item, Now, Place, Scope, Search, Stack};
 use crate::steps::{frame_step, item_step};
@@ -62,7 +63,7 @@ fn start(alloc: Global, goal: &Term, template: &Term) -> Result<Place, Memory>
     ensures { IfOk result (λ p. place_of p ≡ start_of goal.now template.now) }
 {
     Ok(Place {
-        subst: Subst::new(alloc),
+        subst: Bindings::new(alloc, Subst::new(alloc))?,
         next: goal.first_free()?.max(template.first_free()?),
         level: 2,
     })
@@ -111,7 +112,7 @@ fn take(
 {
     let Branch { mut items, place } = branch;
     let Some(item) = items.pop() else {
-        let term = template.apply(alloc, &place.subst)?;
+        let term = template.apply(alloc, place.subst.subst())?;
         search
             .marks
             .push((search.steps, TraceMark::Answer { term, more }))?;

@@ -1,6 +1,7 @@
 -- What is read off a word.
 use Rattle.std.proofs.Common.{◌≡◌, ℕ, suc, ◌+◌, ◌-◌, ◌<◌, ◌≤◌, Bool, List, [], ◌∷◌, ◌++◌, length, get_or, take, drop, map, refl, ap, ◌∙◌, sym, subst, append_assoc, length-append, arith}
-use Rattle.std.proofs.lemmas.List.{length-take-le, length-drop, get_or-take, get_or-drop, take_all, get_or_default}
+use Rattle.std.proofs.lemmas.List.{length-take-le, length-drop, get_or-take, get_or-drop, take_all, get_or_default, length_push, get_or_push, map_push, map_more}
+use Rattle.std.proofs.lemmas.List.Elements.{All-push, All-weaker}
 use Rattle.std.proofs.lemmas.List.Concat.{flat_map-append}
 use Rattle.store.proofs.Putting.{element_before}
 use Rattle.std.specs.List.{All, flat_map}
@@ -94,3 +95,15 @@ node_taken ns n t ts us all e s u =
 pub some_left : (ns : List Node) (t : Tree) (ts : List Tree) (all : List Node) → ns ++ flat_map flatten (t ∷ ts) ≡ all → length ns < length all
 some_left ns t ts all e =
     omega (arith, ap length e, length-append ns (flat_map flatten (t ∷ ts)), length-append (flatten t) (flat_map flatten ts), ap length (flatten_parts t))
+
+-- one cell more, for one variable more
+pub variable_more : (k m : Known) → Grows k m → (cs ds : List ℕ) (at n i : ℕ) (ns : List ℕ) → All (λ c. c < length k.trees) cs → map (tree_at k) cs ≡ map variable (take i ns) → at ≡ length k.trees → m.trees ≡ k.trees ++ variable n ∷ [] → i < length ns → n ≡ get_or ns i 0 → ds ≡ cs ++ at ∷ [] → All (λ c. c < length m.trees) ds × (map (tree_at m) ds ≡ map variable (take (i + 1) ns))
+variable_more k m g cs ds at n i ns all so_far a t l e d =
+    let room : length m.trees ≡ length k.trees + 1 = ap length t ∙ length_push k.trees (variable n) in
+    let wider : All (λ c. c < length m.trees) cs = All-weaker (λ c. c < length k.trees) (λ c. c < length m.trees) (λ c h. omega arith) cs all in
+    let last : tree_at m at ≡ variable n = ap (λ (ts : List Tree). get_or ts at (atom [])) t ∙ get_or_push k.trees (variable n) (atom []) at (sym a) in (
+      subst (λ (xs : List ℕ). All (λ c. c < length m.trees) xs) (sym d) (All-push (λ c. c < length m.trees) cs at wider (omega arith)),
+      ap (map (tree_at m)) d ∙ map_push (tree_at m) cs at
+          ∙ (λ j. (same_cells k m g cs all ∙ so_far) j ++ (last ∙ ap variable e) j ∷ [])
+          ∙ sym (map_more variable ns i 0 l),
+    )

@@ -1,7 +1,8 @@
 -- What callers see of a store. A cell is a place, a number, and stands for a tree.
-use Rattle.std.specs.Prelude.{◌≡◌, ℕ, ◌<◌, ◌≤◌, List, [], length, slice_index_or, refl}
+use Rattle.std.specs.Prelude.{◌≡◌, ℕ, zero, suc, ◌+◌, ◌<◌, ◌≤◌, List, [], ◌∷◌, map, length, slice_index_or, refl}
 use Rattle.std.specs.Coded.{Coded, code_by, coded_ℕ, coded_list, coded×}
-use Rattle.term_core.specs.Tree.{Tree, atom}
+use Rattle.term_core.specs.Tree.{Tree, variable, atom}
+use Rattle.std.specs.List.{All}
 use Rattle.term_core.specs.Flat.{flatten, tree_code}
 use Rattle.term_core.specs.Parts.{arguments_of}
 
@@ -42,3 +43,14 @@ size t = length (flatten t)
 -- an argument of a tree, counted from 0
 abbrev pub argument_of : Tree → ℕ → Tree
 argument_of t i = slice_index_or (arguments_of t) i (atom [])
+
+-- so many variables, numbered from the first
+abbrev pub variables_from : (first many : ℕ) → List Tree
+variables_from first zero = []
+variables_from first (suc k) = variable first ∷ variables_from (first + 1) k
+
+-- cells of the second store for these trees, where all else is as before
+pub record MakesAll (old new : Cells) (cs : List ℕ) (ts : List Tree) : Type 0 where
+  pub cells : All (IsCell new) cs
+  pub trees : map (tree_of new) cs ≡ ts
+  pub keeps : Keeps old new

@@ -4,7 +4,7 @@ ghost use Rattle.term_core.specs.Tree.{variable, integer, atom, compound, trees_
 ghost use Rattle.term_core.specs.Parts.{symbol_of, arguments_of};
 ghost use Rattle.term_core.specs.Variables.{renamed, numbered, variables, first_free};
 ghost use Rattle.term_core.specs.Substitution.{apply};
-ghost use Rattle.store.specs.Cells.{IsCell, tree_of, argument_of, Makes};
+ghost use Rattle.store.specs.Cells.{IsCell, tree_of, argument_of, variables_from, Makes, MakesAll};
 ghost use Rattle.store.specs.Seen.{seen_node, IsTaken};
 
 use crate::cell::Cell;
@@ -101,6 +101,51 @@ impl Store {
         let len = self.heap.len();
         match self.heap.compound_placed(self.alloc, name, args) {
             Ok(place) => Ok(Cell::at(place)),
+            Err(memory) => {
+                self.heap.cut_back(len);
+                Err(memory)
+            }
+        }
+    }
+
+    /// A cell for a compound of this name with 1 to 1,024 new variables, which take the next numbers.
+    pub fn fresh(&mut self, name: &str, count: u32) -> Result<Cell, Memory>
+        requires some { 1 ≤ count }
+        requires few { count ≤ 1024 }
+        ensures ok { IfOk result (λ c. Makes self.old self.new c
+            (compound name.now (trees_of (variables_from self.old.next count)))) }
+        ensures next { OnOk result (self.new.next ≡ self.old.next + count) }
+        ensures err { OnErr result (self.new ≡ self.old) }
+    {
+        let next = self.next.checked_add(u64::from(count)).ok_or(Memory)?;
+        let len = self.heap.len();
+        match self.heap.fresh_placed(self.alloc, name, count, self.next) {
+            Ok(place) => {
+                self.next = next;
+                Ok(Cell::at(place))
+            }
+            Err(memory) => {
+                self.heap.cut_back(len);
+                Err(memory)
+            }
+        }
+    }
+
+    /// Cells for the variables of a cell's term, each once, by first occurrence.
+    pub fn variables(&mut self, c: Cell) -> Result<Vec<Cell>, Memory>
+        requires { IsCell self.old c }
+        ensures ok { IfOk result (λ v. MakesAll self.old self.new v.items
+            (map variable (variables (tree_of self.old c)))) }
+        ensures next { self.new.next ≡ self.old.next }
+        ensures err { OnErr result (self.new ≡ self.old) }
+    {
+        let Taken::Term(t) = self.take(c, MAX_NODES as u64)? else {
+            return Err(Memory);
+        };
+        let numbers = t.variables(self.alloc)?;
+        let len = self.heap.len();
+        match self.heap.variables_placed(self.alloc, &numbers) {
+            Ok(cells) => Ok(cells),
             Err(memory) => {
                 self.heap.cut_back(len);
                 Err(memory)

@@ -27,7 +27,8 @@ impl Heap {
     ghost use Rattle.std.specs.Prelude.{◌≡◌, ◌<◌, ◌≤◌, ◌^◌, ◌+◌, ◌++◌, ◌∷◌, [], true, IfOk, OnOk, OnErr, IfSome, length, slice_index_or, take, map};
     ghost use Rattle.std.specs.List.{All, flat_map};
     ghost use Rattle.store.specs.Heap.{IsHeap, GrownFrom, known_of, HasTree, IsWord, word_tree, tree_at, block, name_at, trees_on, gathered, Lays, StandsAt};
-    ghost use Rattle.term_core.specs.Tree.{integer, atom, compound, trees_of};
+    ghost use Rattle.term_core.specs.Tree.{variable, integer, atom, compound, trees_of};
+    ghost use Rattle.store.specs.Cells.{variables_from};
     ghost use Rattle.term_core.specs.Parts.{symbol_of, arguments_of};
     ghost use Rattle.store.specs.Seen.{seen_node, HasNodes};
     ghost use Rattle.term_core.specs.Variables.{occurrences, renamed};
@@ -249,19 +250,24 @@ impl Heap {
         Ok(pending.pop().unwrap())
     }
 
-    // The word of a compound of these cells' trees.
-    fn compound(&mut self, alloc: Global, name: &str, args: &[Cell]) -> Result<Word, Memory>
+    // The word of a compound whose arguments have these words, the last one first.
+    fn compound(
+        &mut self,
+        alloc: Global,
+        name: &str,
+        mut pending: Vec<Word>,
+    ) -> Result<Word, Memory>
         requires heap { IsHeap self.old }
-        requires some { 1 ≤ length args.now }
-        requires few { length args.now ≤ 1024 }
-        requires cells { All (λ c. c < length (known_of self.old).trees) args.now }
+        requires some { 1 ≤ length pending.items }
+        requires few { length pending.items ≤ 1024 }
+        requires words { All (IsWord (known_of self.old)) pending.items }
         ensures grown { GrownFrom (known_of self.old) self.new }
         ensures word { IfOk result (λ w. HasTree (known_of self.new) w
-            (compound name.now (trees_of (map (tree_at (known_of self.old)) args.now)))) }
+            (compound name.now (trees_of (trees_on (known_of self.old) pending.items)))) }
     {
-        let name = self.name(alloc, name)?;
-        let mut pending = self.words_of(alloc, args)?;
-        self.gather(&mut pending, name, args.len() as u32)?;
+        let at = self.name(alloc, name)?;
+        let count = pending.len() as u32;
+        self.gather(&mut pending, at, count)?;
         Ok(pending.pop().unwrap())
     }
 
@@ -297,8 +303,61 @@ impl Heap {
         ensures place { IfOk result (StandsAt (known_of self.new)
             (compound name.now (trees_of (map (tree_at (known_of self.old)) args.now)))) }
     {
-        let word = self.compound(alloc, name, args)?;
+        let pending = self.words_of(alloc, args)?;
+        let word = self.compound(alloc, name, pending)?;
         self.place(word)
+    }
+
+    // Puts a compound of so many new variables, numbered from `next`, and tells its place.
+    pub(crate) fn fresh_placed(
+        &mut self,
+        alloc: Global,
+        name: &str,
+        count: u32,
+        next: u64,
+    ) -> Result<u32, Memory>
+        requires heap { IsHeap self.old }
+        requires some { 1 ≤ count }
+        requires few { count ≤ 1024 }
+        ensures grown { GrownFrom (known_of self.old) self.new }
+        ensures place { IfOk result (StandsAt (known_of self.new)
+            (compound name.now (trees_of (variables_from next count)))) }
+    {
+        let pending = self.new_words(alloc, count, next)?;
+        let word = self.compound(alloc, name, pending)?;
+        self.place(word)
+    }
+
+    // The words of so many variables, numbered from `next`, the last one first.
+    fn new_words(&self, alloc: Global, count: u32, next: u64) -> Result<Vec<Word>, Memory>
+        ensures words { IfOk result (λ v. All (IsWord (known_of self.now)) v.items) }
+        ensures trees { IfOk result (λ v. trees_on (known_of self.now) v.items ≡ variables_from next count) }
+        ensures count { IfOk result (λ v. length v.items ≡ count) }
+    {
+        let mut words = Vec::with_capacity(alloc, count as usize)?;
+        for i in 0..count {
+            words.push(variable(u64::from(count - 1 - i), next)?)?;
+        }
+        Ok(words)
+    }
+
+    // Puts the variables of these numbers and tells their cells.
+    pub(crate) fn variables_placed(
+        &mut self,
+        alloc: Global,
+        numbers: &[u64],
+    ) -> Result<Vec<Cell>, Memory>
+        requires { IsHeap self.old }
+        ensures grown { GrownFrom (known_of self.old) self.new }
+        ensures cells { IfOk result (λ v. All (λ c. c < length (known_of self.new).trees) v.items) }
+        ensures trees { IfOk result (λ v. map (tree_at (known_of self.new)) v.items ≡ map variable numbers.now) }
+    {
+        let mut cells = Vec::new(alloc);
+        for number in numbers {
+            let place = self.place(variable_word(*number)?)?;
+            cells.push(Cell::at(place))?;
+        }
+        Ok(cells)
     }
 
     // The words of these cells, the last one first.
@@ -408,6 +467,13 @@ impl Heap {
         }
         Ok(())
     }
+}
+
+fn variable_word(number: u64) -> Result<Word, Memory>
+    ensures { IfOk result (λ w. shape_of w ≡ Shape.Var number) }
+{
+    let word = variable(number, 0)?;
+    Ok(word)
 }
 
 // The word of a variable.

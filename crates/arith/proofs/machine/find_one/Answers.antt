@@ -1,4 +1,4 @@
-use Rattle.std.proofs.Common.{◌≡◌, ℤ, List, arith, ap, ◌∙◌, sym}
+use Rattle.std.proofs.Common.{List, arith, ap, ◌∙◌}
 use Rattle.arith.specs.declared.machine.Task.{Task}
 use Rattle.arith.specs.declared.machine.Task.TheVariants.{Find, One}
 use Rattle.builtin_table.specs.Arithmetic.{unary_named}

@@ -1,4 +1,4 @@
-use Rattle.std.proofs.Common.{arith, rules}
+use Rattle.std.proofs.Common.{arith}
 use Rattle.std.proofs.lemmas.Result.{err_from_is_err_and}
 use Rattle.program.proofs.TextLemmas.{clauses_more, faults_more, fault_here, none_left}
 use Rattle.program.proofs.texts.own_clauses.Goals as goal

@@ -1,4 +1,4 @@
-use Rattle.std.proofs.Common.{◌≡◌, ◌+◌, ◌≤◌, length, take, drop}
+use Rattle.std.proofs.Common.{◌≡◌, ◌+◌, take, drop}
 use Rattle.program.specs.Source.{clauses_in, trees_read, first_fault}
 use Rattle.program.proofs.texts.own_clauses.Given as goal
 

@@ -1,8 +1,7 @@
-use Rattle.std.proofs.Common.{◌≡◌, ◌∙◌, ◌++◌, ◌∷◌, ap, sym, arith, drop, get_or, length, append-nil, ◌<◌}
+use Rattle.std.proofs.Common.{◌≡◌, ◌∙◌, ◌++◌, ◌∷◌, ap, sym, arith, length, append-nil, ◌<◌}
 use Rattle.std.proofs.lemmas.List.Elements.{All-drop}
-use Rattle.prolog_lex.specs.Lexed.{token_of, IsTokenOf}
-use Rattle.prolog_read.specs.Lexemes.{placed, behind_all}
-use Rattle.prolog_read.specs.Views.{seen, tokens_in}
+use Rattle.prolog_lex.specs.Lexed.{IsTokenOf}
+use Rattle.prolog_read.specs.Views.{seen}
 use Rattle.prolog_read.proofs.Placing.{placed_pair, behind_all_pair, placed_single, behind_all_single, placed_none, behind_all_none, pushed}
 use Rattle.prolog_read.proofs.lexemes.lexemes.Goals as goal
 

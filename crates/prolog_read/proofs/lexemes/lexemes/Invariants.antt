@@ -1,4 +1,4 @@
-use Rattle.std.proofs.Common.{◌≡◌, ◌++◌, drop, length, All}
+use Rattle.std.proofs.Common.{◌≡◌, ◌++◌, length}
 use Rattle.prolog_read.specs.Lexemes.{placed, behind_all, nothing_before}
 use Rattle.prolog_read.specs.Views.{seen, tokens_in, AreTokensOf, HasIndex}
 use Rattle.prolog_read.proofs.lexemes.lexemes.Given as goal

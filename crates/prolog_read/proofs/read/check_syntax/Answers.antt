@@ -1,4 +1,4 @@
-use Rattle.std.proofs.Common.{◌≡◌, ◌∙◌, sym}
+use Rattle.std.proofs.Common.{◌∙◌}
 use Rattle.std.proofs.lemmas.Result.{err_from_is_err_and}
 use Rattle.prolog_read.proofs.Faults.{told_fault, nodes_fault}
 use Rattle.prolog_read.proofs.read.check_syntax.Goals as goal

@@ -1,10 +1,11 @@
-use Rattle.std.proofs.Common.{◌≡◌, ◌∙◌, Ok, ap, sym, map}
+use Rattle.std.proofs.Common.{◌≡◌, ◌∙◌, ap, sym, map}
 use Rattle.std.proofs.lemmas.Result.{IfOk-weaker, IfErr-weaker}
-use Rattle.prolog_read.specs.Clauses.{iso, sentences}
+use Rattle.prolog_read.specs.Clauses.{iso}
 use Rattle.prolog_read.specs.Outcome.{clauses_read, read_as, and_then, lexed, clauses}
 use Rattle.prolog_read.specs.Views.{tokens_in}
 use Rattle.prolog_read.proofs.Placing.{all_tokens}
 use Rattle.prolog_read.proofs.Exact.{found_clauses, none_clauses, clauses_numbered, all_numbered}
+use Rattle.prolog_read.proofs.Least.{told_syntax, source_syntax_at}
 use Rattle.prolog_read.proofs.read.read_clauses.Goals as goal
 use Rattle.prolog_read.proofs.read.read_clauses.Goals.{After-drop-tokens}
 
@@ -26,3 +27,7 @@ returns-clause-numbered c =
 pub returns-clause-refused : goal.returns-clause-refused
 returns-clause-refused c =
     IfErr-weaker c.clauses.result _ _ (λ e h. none_clauses c.args.text.now iso e (rw (at_tokens c) h)) c.clauses.ensures.err
+
+pub returns-clause-syntax : goal.returns-clause-syntax
+returns-clause-syntax c =
+    IfErr-weaker c.clauses.result _ _ (λ e h. told_syntax (clauses_read iso c.args.text.now) e _ (source_syntax_at c.args.text.now iso) (rw (at_tokens c) h)) c.clauses.ensures.err

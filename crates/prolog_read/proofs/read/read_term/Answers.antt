@@ -1,11 +1,10 @@
-use Rattle.std.proofs.Common.{◌≡◌, ◌∙◌, Ok, ap, sym}
+use Rattle.std.proofs.Common.{◌≡◌, ◌∙◌, ap, sym}
 use Rattle.std.proofs.lemmas.Result.{IfOk-weaker, IfErr-weaker}
-use Rattle.prolog_read.specs.Variables.{IsNumbered}
-use Rattle.prolog_read.specs.Reads.{Reads}
-use Rattle.prolog_read.specs.Outcome.{term_read, read_as, and_then, lexed, only_term, IsRefusal, Tells}
+use Rattle.prolog_read.specs.Outcome.{term_read, read_as, and_then, lexed, only_term}
 use Rattle.prolog_read.specs.Views.{tokens_in}
 use Rattle.prolog_read.proofs.Placing.{all_tokens}
 use Rattle.prolog_read.proofs.Exact.{found_reads, none_reads}
+use Rattle.prolog_read.proofs.Least.{told_syntax, syntax_at}
 use Rattle.prolog_read.proofs.Numbering.{term_numbered}
 use Rattle.prolog_read.proofs.read.read_term.Goals as goal
 use Rattle.prolog_read.proofs.read.read_term.Goals.{After-drop-tokens}
@@ -28,3 +27,7 @@ returns-clause-numbered c =
 pub returns-clause-refused : goal.returns-clause-refused
 returns-clause-refused c =
     IfErr-weaker c.only_term.result _ _ (λ e h. none_reads c.args.ops.now c.args.text.now e (rw (at_tokens c) h)) c.only_term.ensures.err
+
+pub returns-clause-syntax : goal.returns-clause-syntax
+returns-clause-syntax c =
+    IfErr-weaker c.only_term.result _ _ (λ e h. told_syntax (term_read c.args.ops.now c.args.text.now) e _ (syntax_at c.args.text.now c.args.ops.now) (rw (at_tokens c) h)) c.only_term.ensures.err

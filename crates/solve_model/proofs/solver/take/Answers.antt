@@ -1,4 +1,6 @@
-use Rattle.std.proofs.Common.{◌+◌, ap, arith}
+use Rattle.std.proofs.Common.{ℕ, ◌+◌, List, ap, arith, ◌∙◌}
+use Rattle.term_core.specs.Tree.{Tree}
+use Rattle.term_core.specs.Substitution.{apply}
 use Rattle.solve_model.specs.Search.{items_of, item_of, place_of, used_of}
 use Rattle.solve_model.specs.Trace.{world_of}
 use Rattle.solve_model.proofs.Resume.{answered, spent, stepped, items_pushed, nothing_kept}
@@ -8,7 +10,7 @@ pub returns-in_default : goal.returns-in_default
 returns-in_default c = λ ts.
     answered (world_of c.args.program.now ts c.args.limit) c.args.template.now c.args.search.now.stack.frames.items c.args.search.now.marks c.push.new.self (items_of c.args.branch.items.items) (place_of c.args.branch.place) c.args.more (used_of c.args.search.now.steps) c.in_ok-term.term
     (ap items_of (nothing_kept c.args.branch.items.items _ c.in_default.ensures.cases.0 (omega (arith, c.args.branch.items.ok.0))))
-    c.in_ok-term.ensures c.in_ok-push.ensures.ok
+    (c.in_ok-term.ensures ∙ ap (λ (s : List (ℕ × Tree)). apply s c.args.template.now) c.subst.ensures) c.in_ok-push.ensures.ok
 
 pub returns-then-search-limit : goal.returns-then-search-limit
 returns-then-search-limit c = λ ts.

@@ -1,7 +1,7 @@
 use Rattle.std.proofs.Common.{List, ◌∷◌, ap, sym, ◌∙◌}
 use Rattle.solve_model.specs.Run.{Item, Goal, goal_step}
 use Rattle.solve_model.specs.Rows.{row_as}
-use Rattle.solve_model.specs.Search.{items_of, place_of, resumed, runs}
+use Rattle.solve_model.specs.Search.{place_of, resumed}
 use Rattle.solve_model.specs.Trace.{world_of}
 use Rattle.solve_model.proofs.Choosing.{same_run}
 use Rattle.solve_model.proofs.steps.goal_step.Goals as goal

@@ -1,4 +1,4 @@
-use Rattle.std.proofs.Common.{◌∙◌, ap, sym, [], ◌∷◌, ◌++◌}
+use Rattle.std.proofs.Common.{◌∙◌, ap, sym, [], ◌∷◌}
 use Rattle.event_core.specs.declared.event.Event.TheVariants as event
 use Rattle.event_core.specs.declared.fit.Fit.TheVariants.{GoesOn}
 use Rattle.event_core.specs.declared.query.Place.TheVariants.{Asked}
@@ -15,7 +15,6 @@ returns-in_ok-outcome-in-GoesOn-clause-reading c = λ spec same read.
 pub returns-in_ok-outcome-in-Stops-clause-reading : goal.returns-in_ok-outcome-in-Stops-clause-reading
 returns-in_ok-outcome-in-Stops-clause-reading c = λ spec same read.
     c.in_ok-outcome-in-Stops.ensures.reading spec
-    ∙ ap (λ l. closes c.args.destroys l) (c.in_ok-push-in-Stops.ensures.ok ∙ ap (λ l. l ++ event.Stop ∷ []) c.new-events.ensures)
     ∙ ap (λ b. closes b (event.Stop ∷ [])) (sym same)
     ∙ sym (step_stops spec c.args.self read c.args.request (sym c.in-Stops.is ∙ c.fit_of.ensures))
 

@@ -1,7 +1,5 @@
-use Rattle.std.proofs.Common.{refl, ap, ◌∙◌, sym, [], subst}
 use Rattle.std.proofs.lemmas.Result.{err_from_is_err_and}
 use Rattle.op_table.specs.Table.{row}
-use Rattle.prolog_grammar.specs.Read.{Tells}
 use Rattle.prolog_grammar.proofs.Found.{preorder_ok, preorder_err}
 use Rattle.prolog_grammar.proofs.grammar.reader.preorder.Goals as goal
 

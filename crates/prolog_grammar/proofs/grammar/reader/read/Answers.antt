@@ -1,10 +1,9 @@
-use Rattle.std.proofs.Common.{refl, ap, ◌∙◌, sym, ◌<◌, length, subst, ◌≡◌}
+use Rattle.std.proofs.Common.{sym, ◌<◌, length, subst, ◌≡◌}
 use Rattle.std.proofs.lemmas.Result.{err_from_is_err_and}
 use Rattle.op_table.specs.Table.{row}
 use Rattle.term_core.specs.Flat.{flatten, parse}
 use Rattle.prolog_grammar.specs.Machine.{start}
 use Rattle.prolog_grammar.specs.Read.{reading, term_of, first_place}
-use Rattle.prolog_grammar.proofs.Steps.{if_ok}
 use Rattle.prolog_grammar.proofs.Found.{node_of, whole_tree, limited_as, faults_first}
 use Rattle.prolog_grammar.proofs.grammar.reader.read.Goals as goal
 

@@ -1,4 +1,4 @@
-use Rattle.std.proofs.Common.{refl, ap, sym, ◌∙◌, reverse, Some, None, cond}
+use Rattle.std.proofs.Common.{ap, sym, ◌∙◌, Some, None, cond}
 use Rattle.op_table.specs.Table.{row}
 use Rattle.prolog_grammar.specs.Stack.{kept}
 use Rattle.prolog_grammar.proofs.Tokens.{tells, refused, goes_on, at_end}

@@ -1,4 +1,4 @@
-use Rattle.std.proofs.Common.{refl, ap, sym, ◌∙◌, ◌-◌, ◌++◌, [], take, reverse, ◌≡◌}
+use Rattle.std.proofs.Common.{ap, sym, ◌∙◌, ◌-◌, ◌++◌, [], take, reverse, ◌≡◌}
 use Rattle.prolog_grammar.specs.Turn.{turned}
 use Rattle.prolog_grammar.proofs.Turning.{turned_last, turned_none}
 use Rattle.prolog_grammar.proofs.grammar.turn.turned.Goals as goal

@@ -1,4 +1,4 @@
-use Rattle.std.proofs.Common.{refl, ap, ◌∙◌, ◌-◌, ◌++◌, ◌∷◌, [], take, ℕ}
+use Rattle.std.proofs.Common.{refl, ap, ◌∙◌, ◌-◌, ◌++◌, [], take}
 use Rattle.prolog_grammar.specs.Stack as stack
 use Rattle.prolog_grammar.proofs.Steps.{turn, bottom, reverse_last, if_ok}
 use Rattle.prolog_grammar.proofs.grammar.machine.Machine.behind.Goals as goal

@@ -1,4 +1,4 @@
-use Rattle.std.proofs.Common.{◌≡◌, ◌-◌, ap, sym, ◌∙◌, length, slice_get}
+use Rattle.std.proofs.Common.{◌-◌, ap, ◌∙◌, length, slice_get}
 use Rattle.prolog_grammar.proofs.Steps.{most_some, most_none}
 use Rattle.prolog_grammar.proofs.grammar.machine.Machine.most.Goals as goal
 

@@ -1,6 +1,5 @@
-use Rattle.std.proofs.Common.{reverse, refl, ap, sym, ◌∙◌, ◌++◌, ◌∷◌, [], arith}
+use Rattle.std.proofs.Common.{reverse, refl, ap, sym, ◌∙◌, arith}
 use Rattle.op_table.specs.Table.{row}
-use Rattle.prolog_grammar.specs.Stack as stack
 use Rattle.prolog_grammar.specs.declared.grammar.frame.Frame.TheVariants.{Prefix}
 use Rattle.prolog_grammar.proofs.Steps.{reverse_last, if_ok, named_joined, named_alone, named_none, named_high, named_prefix}
 use Rattle.prolog_grammar.proofs.grammar.machine.Machine.named.Goals as goal

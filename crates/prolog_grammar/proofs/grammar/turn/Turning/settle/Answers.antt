@@ -1,6 +1,4 @@
-use Rattle.std.proofs.Common.{refl, ap, ◌∙◌, ◌-◌, ◌++◌, ◌∷◌, [], take, arith, reverse, ◌≡◌, true, false}
-use Rattle.std.specs.Prelude.{nat_lt}
-use Rattle.prolog_grammar.specs.Turn.{settle}
+use Rattle.std.proofs.Common.{refl, ap, ◌∙◌, ◌-◌, take, arith}
 use Rattle.prolog_grammar.proofs.Steps.{reverse_last}
 use Rattle.prolog_grammar.proofs.Turning.{settle_more, settle_last, settle_none}
 use Rattle.prolog_grammar.proofs.grammar.turn.Turning.settle.Goals as goal

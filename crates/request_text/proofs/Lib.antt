@@ -1,0 +1,9 @@
+pub mod Acts
+pub mod LinePlaces
+pub mod LineStarts
+pub mod OptionLists
+pub mod Printed
+pub mod Programs
+pub mod RequestLines
+pub mod Scripts
+pub mod TermShapes

@@ -1,0 +1,21 @@
+-- A script, as the code keeps it, and how faults are passed on.
+use Rattle.program.specs.declared.fault.ProgFault.{ProgFault}
+use Rattle.program.specs.declared.fault.ProgFault.TheVariants as program
+use Rattle.request_text.specs.declared.fault.SpecFault.{SpecFault}
+use Rattle.request_text.specs.declared.fault.SpecFault.TheVariants as spec
+use Rattle.request_text.specs.declared.fault.ScriptFault.{ScriptFault}
+use Rattle.request_text.specs.declared.fault.ScriptFault.TheVariants as fault
+use Rattle.request_text.specs.declared.script.Script as kept
+use Rattle.request_text.specs.Spelled.{Script}
+
+abbrev pub script_read : kept.Script → Script
+script_read s = record { program = s.program; settings = s.settings; lines = s.lines }
+
+-- want of memory stays what it is
+abbrev pub clause_fault : ProgFault → SpecFault
+clause_fault program.Memory = spec.Memory
+clause_fault f = spec.Clause f
+
+abbrev pub spec_fault : SpecFault → ScriptFault
+spec_fault spec.Memory = fault.Memory
+spec_fault f = fault.Spec f

@@ -1,0 +1,21 @@
+//! What clients write: the text of a request, and scripts of a source text and request lines.
+#![tactic(auto)]
+
+mod fault;
+mod laws;
+mod options;
+mod parts;
+mod requests;
+mod script;
+mod sent;
+mod shapes;
+
+pub use fault::{RequestFault, ScriptFault, SpecFault, place_of};
+pub use laws::{lines_keep_their_places, scripts_are_parted};
+pub use requests::read_request;
+pub use script::{Script, read_script};
+pub use sent::Sent;
+
+
+#[cfg(test)]
+mod tests;

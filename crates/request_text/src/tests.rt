@@ -1,0 +1,105 @@
+use crate::{RequestFault, ScriptFault, Sent, SpecFault, place_of, read_request, read_script};
+use event_core::Request;
+use program::ProgFault;
+use std::alloc::Global;
+use std::test::Fail;
+use term_core::{Name, Pi};
+
+// What kind of request it is, and its chunk.
+fn kind(sent: &Sent) -> (&'static str, u64) {
+    match sent {
+        Sent::Request(Request::Ask(ask)) => ("ask", u64::from(ask.chunk)),
+        Sent::Request(Request::Next(Some(chunk))) => ("next", u64::from(*chunk)),
+        Sent::Request(Request::Next(None)) => ("next", 0),
+        Sent::Request(Request::Stop) => ("stop", 0),
+        Sent::Request(Request::Respond(_)) => ("respond", 0),
+        Sent::Abort => ("abort", 0),
+        Sent::Destroy => ("destroy", 0),
+    }
+}
+
+// What a text is as a request, with its chunk or the place of its fault.
+fn request(alloc: Global, text: &str) -> (&'static str, u64) {
+    match read_request(alloc, text) {
+        Ok(sent) => kind(&sent),
+        Err(RequestFault::Read(fault)) => ("fault", place_of(fault)),
+        Err(RequestFault::NotRequest) => ("none", 0),
+        Err(RequestFault::Memory) => ("memory", 0),
+    }
+}
+
+// What bytes are as a script, with the numbers of the fault.
+fn script(alloc: Global, bytes: &[u8]) -> (&'static str, u64, u64) {
+    match read_script(alloc, bytes) {
+        Ok(_) => ("script", 0, 0),
+        Err(ScriptFault::Utf8 { at }) => ("bytes", at, 0),
+        Err(ScriptFault::Spec(SpecFault::Source(fault))) => ("source", place_of(fault), 0),
+        Err(ScriptFault::Spec(SpecFault::Clause(ProgFault::BadDirective { clause }))) => {
+            ("directive", clause, 0)
+        }
+        Err(ScriptFault::Spec(_)) => ("clause", 0, 0),
+        Err(ScriptFault::Line { line, at }) => ("line", line, at),
+        Err(ScriptFault::Memory) => ("memory", 0, 0),
+    }
+}
+
+#[test]
+fn requests(rt: HostRuntime) -> Result<(), Fail> {
+    let rows: [(&str, (&str, u64)); 18] = [
+        ("next", ("next", 0)),
+        ("next(1000).", ("next", 1000)),
+        ("next(1001)", ("none", 0)),
+        ("next(0)", ("none", 0)),
+        ("stop", ("stop", 0)),
+        ("respond(f(Y))", ("respond", 0)),
+        ("abort .", ("abort", 0)),
+        ("destroy", ("destroy", 0)),
+        ("ask(p(X))", ("ask", 0)),
+        ("ask(p(X),[chunk(2),template(X-Y)])", ("ask", 2)),
+        ("ask(p,[])", ("ask", 0)),
+        ("ask(p,[chunk(2),chunk(2)])", ("none", 0)),
+        ("ask(p,[chunk(2)|T])", ("none", 0)),
+        ("ask(p,[limit(2)])", ("none", 0)),
+        ("ask(p,chunk(2))", ("none", 0)),
+        ("create([])", ("none", 0)),
+        ("X", ("none", 0)),
+        ("ask(", ("fault", 4)),
+    ];
+    for (text, expected) in rows {
+        let found = request(rt.alloc(), text);
+        assert_eq!(rt; found.0, expected.0, "{text}");
+        assert_eq!(rt; found.1, expected.1, "{text}");
+    }
+    Ok(())
+}
+
+#[test]
+fn scripts(rt: HostRuntime) -> Result<(), Fail> {
+    let alloc = rt.alloc();
+    let bytes = b":- op(700, xfx, likes).\nsam likes pie.\r\n---\r\n\n% one\ncreate([limit(9),destroy(false)])\nask(likes(sam,W))\nabort";
+    let read = read_script(alloc, bytes)?;
+    let likes = Pi {
+        name: Name::new(alloc, "likes")?,
+        arity: 2,
+    };
+    assert_eq!(rt; read.program.clauses(&likes).len(), 1);
+    assert_eq!(rt; read.settings.chunk, 1);
+    assert_eq!(rt; read.settings.limit, 9);
+    assert!(rt; !read.settings.destroys);
+    assert_eq!(rt; read.lines.len(), 2);
+    let rows: [(&[u8], (&str, u64, u64)); 6] = [
+        (b"", ("script", 0, 0)),
+        (b"p(a).\n\x80", ("bytes", 6, 0)),
+        (b"p(a\n---\nagain", ("source", 4, 0)),
+        (b"p(a).\n:- dynamic(p/1).\n---\nagain", ("directive", 2, 0)),
+        (b"---\n\nnext\nagain\nask(", ("line", 3, 0)),
+        (b"---\nask(\n", ("line", 1, 4)),
+    ];
+    for (bytes, expected) in rows {
+        let found = script(alloc, bytes);
+        assert_eq!(rt; found.0, expected.0);
+        assert_eq!(rt; found.1, expected.1);
+        assert_eq!(rt; found.2, expected.2);
+    }
+    Ok(())
+}
