@@ -1,4 +1,5 @@
 pub mod Lively
+pub mod Numbers
 pub mod Resolution
 pub mod Room
 mod Rows

@@ -1,5 +1,5 @@
 -- Laws of one pengine, whatever turns fall.
-use Rattle.std.specs.Prelude.{◌≡◌, ℕ, ◌≤◌, ◌+◌, Bool, List, [], length, None}
+use Rattle.std.specs.Prelude.{◌≡◌, ℕ, ◌≤◌, ◌<◌, ◌+◌, Bool, List, [], length, None}
 use Rattle.term_core.specs.Tree.{Tree}
 use Rattle.solve_model.specs.Run.{World}
 use Rattle.event_core.specs.declared.event.Event.{Event}
@@ -9,7 +9,7 @@ use Rattle.event_core.specs.Parts.{part}
 use Rattle.event_core.specs.Laws.{Begins, StaysInside, replying}
 use Rattle.event_core.specs.Full.{Spec, full}
 use Rattle.session.specs.After.{State, Running, Pengine, Entry, after, made, most_waiting, most_requests, waiting}
-use Rattle.session.specs.Legal.{IsLegal, acts}
+use Rattle.session.specs.Legal.{IsLegal, IsRunning, Holds, acts}
 
 -- The events of a query are those that resolution gives, and no goal that the sandbox passes reaches outside.
 pub record IsResolution (spec : Spec) : Type 0 where
@@ -43,3 +43,8 @@ pub record HasRoom (p : Pengine) : Type 0 where
 
 abbrev pub NoMoreWait : Type 0
 NoMoreWait = (spec : Spec) (budget : ℕ) (es : List Entry) → IsLegal spec budget es made → HasRoom (after spec es made)
+
+-- A turn that is out and will be dropped is of an earlier query than the one that runs. So the number of its query tells whether a turn is kept.
+abbrev pub LostTurnsAreOlder : Type 0
+LostTurnsAreOlder =
+    (spec : Spec) (es : List Entry) (k : ℕ) → Holds k (after spec es made).lost → IsRunning (after spec es made).state → k < (after spec es made).number

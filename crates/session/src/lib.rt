@@ -3,4 +3,4 @@
 
 mod laws;
 
-pub use laws::{no_more_wait, schedule_doesnt_matter};
+pub use laws::{lost_turns_are_older, no_more_wait, schedule_doesnt_matter};
