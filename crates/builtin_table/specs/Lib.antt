@@ -2,3 +2,4 @@ pub mod Arithmetic
 pub mod Errors
 pub mod Lists
 pub mod Primitives
+pub mod Table

@@ -4,9 +4,17 @@
 
 mod errors;
 mod functions;
+mod row;
+mod standard;
+mod table;
 
 pub use errors::{
     domain_error, error, evaluation_error, existence_error, indicator, instantiation_error,
     representation_error, resource_error, syntax_error, type_error,
 };
 pub use functions::{Binary, Fault, Relation, Unary};
+pub use row::{Class, Row};
+pub use table::Table;
+
+#[cfg(test)]
+mod tests;
