@@ -2,7 +2,7 @@
 use Rattle.std.proofs.Common.{◌≡◌, ℕ, zero, suc, Bool, true, false, List, [], ◌∷◌, nat_lt, refl, ap, ◌∙◌}
 use Rattle.term_core.specs.Tree.{Tree}
 use Rattle.term_core.specs.Variables.{numbered}
-use Rattle.solve_model.specs.Goals.{Row, Succeeds, Fails, Both, Call, Predicate, Ready, Runs, Throws, ready, row_of}
+use Rattle.solve_model.specs.Goals.{Row, Succeeds, Fails, Cuts, Both, Either, IfElse, Test, Differ, Call, Catch, Throw, Predicate, Ready, Runs, Throws, ready, row_of}
 use Rattle.solve_model.specs.Run.{World, Ran, Item, Goal, Commit, ExitCatch, Thrown, Spent, Place, Used, Runner, ends, after, at_cut, goal_step, item_step, taken, one_more, run, start, unused, query}
 use Rattle.solve_model.specs.Trace.{traced}
 use Rattle.event_core.specs.declared.request.Request.{Request}
@@ -17,8 +17,15 @@ module _ (w : World) (ts : List Tree) where
   unfolding goal_step
   goal_same r Succeeds l cut is p o u = refl
   goal_same r Fails l cut is p o u = refl
+  goal_same r Cuts l cut is p o u = refl
   goal_same r (Both a b) l cut is p o u = refl
-  goal_same r (Call g) l cut is p o u = refl
+  goal_same r (Either a b) l cut is p o u = refl
+  goal_same r (IfElse a b c) l cut is p o u = refl
+  goal_same r (Test a b c) l cut is p o u = refl
+  goal_same r (Differ a b) l cut is p o u = refl
+  goal_same r (Call g added) l cut is p o u = refl
+  goal_same r (Catch g c t) l cut is p o u = refl
+  goal_same r (Throw b) l cut is p o u = refl
   goal_same r (Predicate i t) l cut is p o u = refl
 
   item_same : (r : Runner) (i : Item) (is : List Item) (p : Place) (o : Bool) (u : Used) → item_step replied r i is p o u ≡ item_step w r i is p o u

@@ -1,7 +1,7 @@
 -- Worked rows, computed from the stops of a query.
 use Rattle.std.specs.Prelude.{◌≡◌, refl, ℕ, Bool, true, false, List, [], ◌∷◌, None, codes}
 use Rattle.term_core.specs.Tree.{Tree, atom}
-use Rattle.solve_model.specs.Goals.{one_argument}
+use Rattle.builtin_table.specs.Errors.{one_argument}
 use Rattle.event_core.specs.declared.stop.Stop.{Stop}
 use Rattle.event_core.specs.declared.stop.Stop.TheVariants.{Found, NoMore, Ball, Limit as Spent, Prompt as Asked, Output as Told}
 use Rattle.event_core.specs.declared.event.Event.{Event}

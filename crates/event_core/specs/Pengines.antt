@@ -1,6 +1,6 @@
 -- A pengine as its clients see it.
 use Rattle.std.specs.Prelude.{List}
-use Rattle.solve_model.specs.Run.{Clause}
+use Rattle.program.specs.Clauses.{Clause}
 use Rattle.event_core.specs.declared.settings.Settings.{Settings}
 use Rattle.event_core.specs.Full.{Place}
 

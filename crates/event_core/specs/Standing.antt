@@ -1,6 +1,6 @@
 -- Where a pengine stands, as the code keeps it.
 use Rattle.std.specs.Prelude.{◌≡◌, ◌≢◌, ℕ, ◌==◌, if◌then◌else◌, List, [], ◌∷◌, ◌++◌, length, None, ⊤}
-use Rattle.solve_model.specs.Run.{Clause}
+use Rattle.program.specs.Clauses.{Clause}
 use Rattle.solve_model.specs.Trace.{world_of}
 use Rattle.event_core.specs.declared.request.Ask.{Ask}
 use Rattle.event_core.specs.declared.request.Request.{Request}

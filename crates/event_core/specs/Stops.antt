@@ -1,13 +1,13 @@
 -- The stops of a query: what its trace has to tell, in order.
 use Rattle.std.specs.Prelude.{ℕ, Bool, true, false, List, [], ◌∷◌, Option, Some, None, codes}
-use Rattle.term_core.specs.Tree.{Tree, atom}
+use Rattle.term_core.specs.Tree.{Tree}
 use Rattle.term_core.specs.Variables.{numbered}
 use Rattle.solve_model.specs.declared.answers.Trace.{Trace}
 use Rattle.solve_model.specs.declared.answers.TraceMark.{TraceMark}
 use Rattle.solve_model.specs.declared.answers.TraceMark.TheVariants as shown
 use Rattle.solve_model.specs.declared.answers.TraceEnd.{TraceEnd}
 use Rattle.solve_model.specs.declared.answers.TraceEnd.TheVariants as ended
-use Rattle.solve_model.specs.Goals.{one_argument}
+use Rattle.builtin_table.specs.Errors as errors
 use Rattle.solve_model.specs.Run.{World, query}
 use Rattle.solve_model.specs.Trace.{traced}
 use Rattle.event_core.specs.declared.stop.Stop.{Stop}
@@ -47,7 +47,7 @@ trace_stops t = stops_of t.marks (at_end t.steps (end_stop t.end))
 
 -- the ball in place of a term that doesn't fit an event
 abbrev pub resource_error : Tree
-resource_error = one_argument (codes "resource_error") (atom (codes "text"))
+resource_error = errors.resource_error (codes "text")
 
 -- the term that a stop tells
 abbrev pub term_of : Stop → Option Tree

@@ -6,7 +6,7 @@ use crate::event::Event;
 use crate::pengine::Pengine;
 use crate::request::Request;
 use crate::settings::Settings;
-use solve_model::Program;
+use program::Program;
 use std::alloc::Global;
 use term_core::{List, Memory};
 

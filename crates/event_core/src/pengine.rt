@@ -10,7 +10,7 @@ use crate::fit::{Fit, fit_of};
 use crate::query::{Outcome, Place, Query, begin, end};
 use crate::request::Request;
 use crate::settings::Settings;
-use solve_model::Program;
+use program::Program;
 use std::alloc::Global;
 use std::marker::Model;
 use std::mem;

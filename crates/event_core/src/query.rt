@@ -12,7 +12,7 @@ use crate::rest::Rest;
 use crate::settings::Settings;
 use crate::stop::Stop;
 use crate::stops::stops_of;
-use solve_model::Program;
+use program::Program;
 use std::alloc::Global;
 use std::collections::VecDeque;
 use term_core::{List, Memory};

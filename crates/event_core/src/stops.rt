@@ -9,7 +9,8 @@ ghost use Rattle.event_core.specs.Stops.{is_followed, mark_stop, at_end, end_sto
 use crate::request::Ask;
 use crate::stop::Stop;
 use crate::text::fits;
-use solve_model::{Program, Trace, TraceEnd, TraceMark, trace};
+use program::Program;
+use solve_model::{Trace, TraceEnd, TraceMark, trace};
 use std::alloc::Global;
 use std::collections::VecDeque;
 use term_core::{List, Memory, Term};

@@ -1,32 +1,48 @@
+ghost use Rattle.std.specs.Prelude.{IfOk};
+ghost use Rattle.program.specs.Source.{AreNumbered};
+
 use crate::{Ask, Event, MAX_DEPTH, Pengine, Request, Settings, all_events, fits, line};
-use solve_model::{Clause, Program};
+use program::Program;
 use std::alloc::Global;
 use std::test::Fail;
-use term_core::{Memory, Term};
+use term_core::{List, Memory, ReadTerm, Term};
 
 fn of_p(alloc: Global, argument: Term) -> Result<Term, Memory> {
     Term::comp(alloc, "p", &[argument])
 }
 
-fn fact(alloc: Global, argument: &str) -> Result<Clause, Memory> {
-    Ok(Clause {
-        head: Term::comp(alloc, "p", &[Term::atom(alloc, argument)?])?,
-        body: Term::atom(alloc, "true")?,
-        vars: 0,
-    })
+fn fact(alloc: Global, argument: &str) -> Result<Term, Memory> {
+    of_p(alloc, Term::atom(alloc, argument)?)
+}
+
+// The terms as they are read; their variables are numbered from 0 without a gap.
+fn text(alloc: Global, terms: Vec<Term>) -> Result<Vec<ReadTerm>, Memory>
+    ensures { IfOk result (λ v. AreNumbered v.items) }
+{
+    let mut read = Vec::new(alloc);
+    for term in terms {
+        if term.variables(alloc)?.len() as u64 != term.first_free()? {
+            return Err(Memory);
+        }
+        let names = List::new(alloc);
+        read.push(ReadTerm { term, names })?;
+    }
+    Ok(read)
 }
 
 // p(a). p(b). p(c). p(d) :- zap.
 fn program(alloc: Global) -> Result<Program, Memory> {
-    let mut last = fact(alloc, "d")?;
-    last.body = Term::atom(alloc, "zap")?;
-    let clauses = vec![in alloc;
+    let last = [fact(alloc, "d")?, Term::atom(alloc, "zap")?];
+    let terms = vec![in alloc;
         fact(alloc, "a")?,
         fact(alloc, "b")?,
         fact(alloc, "c")?,
-        last,
+        Term::comp(alloc, ":-", &last)?,
     ]?;
-    Ok(Program::of(clauses))
+    match Program::from_terms(alloc, text(alloc, terms)?, &[], &[]) {
+        Ok(program) => Ok(program),
+        Err(_) => Err(Memory),
+    }
 }
 
 fn ask(alloc: Global, goal: Term) -> Result<Request, Memory> {

@@ -10,7 +10,8 @@ use Rattle.term_core.specs.Substitution.{substituted, all_substituted, value_of}
 use Rattle.term_core.specs.Unification.{Step, clash, reduce, beside, same_step, pair_step}
 use Rattle.term_core.specs.Unifier.{Pairs, solution, mgu, at_clashing, at_reduce}
 use Rattle.solve_model.specs.Run.{Bindings}
-use Rattle.solve_model.specs.Rows.{first_node_of, nodes_clash}
+use Rattle.term_core.specs.Parts.{symbol_of}
+use Rattle.solve_model.specs.Rows.{nodes_clash}
 
 arity-substituted : (g : ℕ → Tree) (ts : Trees) → arity (all_substituted g ts) ≡ arity ts
 arity-substituted g no_trees = refl
@@ -21,7 +22,7 @@ arity-renamed f no_trees = refl
 arity-renamed f (tree t ts) = ap suc (arity-renamed f ts)
 
 module _ (g : ℕ → Tree) (f : ℕ → ℕ) (ps : Pairs) where
-  pair_clash : (t u : Tree) → nodes_clash (first_node_of t) (first_node_of u) ≡ true → pair_step (substituted g t) (substituted g (map_variables f u)) ps ≡ clash
+  pair_clash : (t u : Tree) → nodes_clash (symbol_of t) (symbol_of u) ≡ true → pair_step (substituted g t) (substituted g (map_variables f u)) ps ≡ clash
   pair_clash (variable m) u h = cc
   pair_clash (integer y) (variable n) h = cc
   pair_clash (integer y) (integer z) h = ap (λ (b : Bool). same_step b ps) (not-true (is_eq (int_cmp y z)) h)
@@ -37,7 +38,7 @@ module _ (g : ℕ → Tree) (f : ℕ → ℕ) (ps : Pairs) where
   pair_clash (compound a ts) (compound b us) h =
       rw (arity-substituted g ts, arity-substituted g (map_all_variables f us), arity-renamed f us, not-true (bytes_eq a b && arity ts == arity us) h)
 
-first_of : (t : Tree) (ns : List Node) (n : Node) → n ≡ get_or (flatten t ++ ns) 0 n → n ≡ first_node_of t
+first_of : (t : Tree) (ns : List Node) (n : Node) → n ≡ get_or (flatten t ++ ns) 0 n → n ≡ symbol_of t
 first_of (variable m) ns n h = h
 first_of (integer z) ns n h = h
 first_of (atom a) ns n h = h
@@ -66,4 +67,4 @@ no_unifier (compound a (tree t ts)) (compound b no_trees) m n k l h g e base s =
 no_unifier (compound a (tree t ts)) (compound b (tree u us)) m n k l h g e base s =
     clash_at a b _ _ _ _ s
     (λ ps. pair_clash (value_of s) (λ i. i + base) ps t u
-    (ap (λ (x : Node). nodes_clash x (first_node_of u)) (sym (first_of t (flatten_all ts) m h)) ∙ ap (nodes_clash m) (sym (first_of u (flatten_all us) n g)) ∙ e))
+    (ap (λ (x : Node). nodes_clash x (symbol_of u)) (sym (first_of t (flatten_all ts) m h)) ∙ ap (nodes_clash m) (sym (first_of u (flatten_all us) n g)) ∙ e))

@@ -1,6 +1,9 @@
+pub mod Choosing
 pub mod ClashLemmas
+pub mod Dropped
 pub mod MatchLemmas
 pub mod Relate
 pub mod Resume
 pub mod RowLemmas
 pub mod RunLaws
+pub mod Stepping

@@ -1,9 +1,14 @@
 -- If two runners are related, so are the steps over them. One induction over the table of steps serves every law about runs.
-use Rattle.std.proofs.Common.{◌≡◌, ℕ, Bool, true, false, ◌||◌, ◌==◌, List, [], ◌∷◌, if◌then◌else◌, refl, subst, sym}
+use Rattle.std.proofs.Common.{◌≡◌, ℕ, suc, Bool, true, false, ◌||◌, ◌==◌, List, [], ◌∷◌, map, if◌then◌else◌, Option, Some, None, refl, subst, sym}
+use Rattle.term_core.specs.declared.pi.Pi.{Pi}
 use Rattle.term_core.specs.Tree.{Tree}
+use Rattle.term_core.specs.Parts.{arguments_of}
 use Rattle.term_core.specs.Substitution.{apply}
-use Rattle.solve_model.specs.Goals.{Indicator, Row, Succeeds, Fails, Both, Call, Predicate, row_of, Ready, Runs, Throws, ready}
-use Rattle.solve_model.specs.Run.{World, Clause, Item, Goal, Commit, ExitCatch, End, Failed, Cut, Thrown, Waits, Spent, Outside, Place, Used, Ran, Runner, Branch, ends, after, at_failed, at_cut, cut_to, in_order, if_ready, entered, clauses_of, called, locally, goal_step, item_step, some_left}
+use Rattle.term_core.specs.Unifier.{mgu}
+use Rattle.program.specs.Clauses.{Clause, clauses_of}
+use Rattle.solve_model.specs.Goals.{Row, Succeeds, Fails, Cuts, Both, Either, IfElse, Test, Differ, Call, Catch, Throw, Predicate, row_of, true_goal, Ready, Runs, Throws, ready, with_arguments}
+use Rattle.builtin_table.specs.Primitives.{Outcome, Offers, Ball, Unknown}
+use Rattle.solve_model.specs.Run.{World, Bindings, Item, Goal, Commit, ExitCatch, End, Failed, Cut, Thrown, Waits, Spent, Outside, Place, Used, Ran, Runner, Branch, ends, after, at_failed, at_cut, at_condition, at_catch, cut_to, in_order, if_ready, entered, performed, called, locally, either_of, branched, differs, recovered_by, recovered, caught, goal_step, item_step, some_left}
 
 -- what is done at an end passes on a run that stopped for want of steps or of a reply
 pub record PassesStops (k : End → Used → Ran) : Type 0 where
@@ -24,6 +29,7 @@ pub record IsKept (R : Used → Ran → Ran → Type 0) (w w' : World) : Type 0 
   pub at_end : (e : End) → NotWaits e → (u : Used) → R u (ends e u) (ends e u)
   pub at_after : (u : Used) (a a' : Ran) (k k' : End → Used → Ran) → R u a a' → PassesStops k → PassesStops k' → ((e : End) → NotWaits e → (v : Used) → R v (k e v) (k' e v)) → R u (after a k) (after a' k')
   pub same_clauses : w'.clauses ≡ w.clauses
+  pub same_primitive : w'.primitive ≡ w.primitive
 
 failed_passes : (f : Used → Ran) → PassesStops (at_failed f)
 failed_passes f = record { waits = λ u. refl; spent = λ u. refl }
@@ -33,6 +39,12 @@ cut_passes d = record { waits = λ u. refl; spent = λ u. refl }
 
 cut_to_passes : (d : ℕ) → PassesStops (cut_to d)
 cut_to_passes d = record { waits = λ u. refl; spent = λ u. refl }
+
+condition_passes : (d : ℕ) (f : Used → Ran) → PassesStops (at_condition d f)
+condition_passes d f = record { waits = λ u. refl; spent = λ u. refl }
+
+catch_passes : (d : ℕ) (f : Tree → Used → Ran) → PassesStops (at_catch d f)
+catch_passes d f = record { waits = λ u. refl; spent = λ u. refl }
 
 module _ (R : Used → Ran → Ran → Type 0) (w w' : World) (kept : IsKept R w w') where
   failed_kept : (f f' : Used → Ran) → ((v : Used) → R v (f v) (f' v)) → (e : End) → NotWaits e → (v : Used) → R v (at_failed f e v) (at_failed f' e v)
@@ -63,6 +75,30 @@ module _ (R : Used → Ran → Ran → Type 0) (w w' : World) (kept : IsKept R w
   cut_to_kept d Spent x v = kept.at_end Spent tt v
   cut_to_kept d (Outside i) x v = kept.at_end (Outside i) tt v
 
+  condition_kept : (d : ℕ) (f f' : Used → Ran) → ((v : Used) → R v (f v) (f' v)) → (e : End) → NotWaits e → (v : Used) → R v (at_condition d f e v) (at_condition d f' e v)
+  condition_kept d f f' h Failed x v = h v
+  condition_kept d f f' h (Cut l) x v = at (l == suc d)
+    where
+      at : (b : Bool) → R v (elim b [ true ↦ f v | false ↦ ends (if l == d then Failed else Cut l) v ]) (elim b [ true ↦ f' v | false ↦ ends (if l == d then Failed else Cut l) v ])
+      at true = h v
+      at false = cut_kept d (Cut l) tt v
+  condition_kept d f f' h (Thrown b l) x v = kept.at_end (Thrown b l) tt v
+  condition_kept d f f' h Waits x v = absurd x
+  condition_kept d f f' h Spent x v = kept.at_end Spent tt v
+  condition_kept d f f' h (Outside i) x v = kept.at_end (Outside i) tt v
+
+  catch_kept : (d : ℕ) (f f' : Tree → Used → Ran) → ((b : Tree) (v : Used) → R v (f b v) (f' b v)) → (e : End) → NotWaits e → (v : Used) → R v (at_catch d f e v) (at_catch d f' e v)
+  catch_kept d f f' h Failed x v = kept.at_end Failed tt v
+  catch_kept d f f' h (Cut l) x v = cut_kept d (Cut l) tt v
+  catch_kept d f f' h (Thrown b l) x v = at (l == d)
+    where
+      at : (c : Bool) → R v (elim c [ true ↦ f b v | false ↦ ends (Thrown b l) v ]) (elim c [ true ↦ f' b v | false ↦ ends (Thrown b l) v ])
+      at true = h b v
+      at false = kept.at_end (Thrown b l) tt v
+  catch_kept d f f' h Waits x v = absurd x
+  catch_kept d f f' h Spent x v = kept.at_end Spent tt v
+  catch_kept d f f' h (Outside i) x v = kept.at_end (Outside i) tt v
+
   if_ready_kept : (s : Ready) (is : List Item) (u : Used) (f f' : Tree → Ran) → ((t : Tree) → R u (f t) (f' t)) → R u (if_ready s is u f) (if_ready s is u f')
   if_ready_kept (Runs t) is u f f' h = h t
   if_ready_kept (Throws b) is u f f' h = kept.at_end _ tt u
@@ -78,20 +114,53 @@ module _ (R : Used → Ran → Ran → Type 0) (w w' : World) (kept : IsKept R w
     locally_kept t is p o u =
         kept.at_after u _ _ _ _ (related _ _ o u) (cut_passes p.level) (cut_passes p.level) (cut_kept p.level)
 
-    called_kept : (cs : List Clause) (i : Indicator) (t : Tree) (is : List Item) (p : Place) (o : Bool) (u : Used) → R u (called r cs i t is p o u) (called r' cs i t is p o u)
-    called_kept [] i t is p o u = kept.at_end _ tt u
+    performed_kept : (q : Outcome) (i : Pi) (is : List Item) (p : Place) (o : Bool) (u : Used) → R u (performed r q i is p o u) (performed r' q i is p o u)
+    performed_kept (Offers rs) i is p o u = in_order_kept _ o u
+    performed_kept (Ball b) i is p o u = kept.at_end _ tt u
+    performed_kept Unknown i is p o u = kept.at_end _ tt u
+
+    called_kept : (cs : List Clause) (i : Pi) (t : Tree) (is : List Item) (p : Place) (o : Bool) (u : Used) → R u (called w r cs i t is p o u) (called w' r' cs i t is p o u)
+    called_kept [] i t is p o u =
+        subst (λ (f : List ℕ → List Tree → ℕ → Outcome). R u (performed r (w.primitive i.name (arguments_of (apply p.subst t)) p.next) i is p o u) (performed r' (f i.name (arguments_of (apply p.subst t)) p.next) i is p o u)) (sym kept.same_primitive) (performed_kept (w.primitive i.name (arguments_of (apply p.subst t)) p.next) i is p o u)
     called_kept (c ∷ cs) i t is p o u =
         kept.at_after u _ _ _ _ (in_order_kept _ o u) (cut_passes p.level) (cut_passes p.level) (cut_kept p.level)
+
+    branched_kept : (c t e : Tree) (l : ℕ) (cut : Bool) (is : List Item) (p : Place) (o : Bool) (u : Used) → R u (branched r c t e l cut is p o u) (branched r' c t e l cut is p o u)
+    branched_kept c t e l cut is p o u =
+        kept.at_after u _ _ _ _ (related _ _ true u) (condition_passes _ _) (condition_passes _ _) (condition_kept _ _ _ (λ v. related _ p o v))
+
+    differs_kept : (s : Option Bindings) (l : ℕ) (cut : Bool) (is : List Item) (p : Place) (o : Bool) (u : Used) → R u (differs r s l cut is p o u) (differs r' s l cut is p o u)
+    differs_kept None l cut is p o u = related _ p o u
+    differs_kept (Some s) l cut is p o u =
+        kept.at_after u _ _ _ _ (related _ _ true u) (condition_passes _ _) (condition_passes _ _) (condition_kept _ _ _ (λ v. related _ p o v))
+
+    recovered_kept : (s : Option Bindings) (ball t : Tree) (is : List Item) (p : Place) (o : Bool) (u : Used) → R u (recovered_by r s ball t is p o u) (recovered_by r' s ball t is p o u)
+    recovered_kept None ball t is p o u = kept.at_end _ tt u
+    recovered_kept (Some s) ball t is p o u = if_ready_kept (ready (apply s t)) is u _ _ (λ h. locally_kept h is _ o u)
+
+    caught_kept : (g c t : Tree) (is : List Item) (p : Place) (o : Bool) (u : Used) → R u (caught r g c t is p o u) (caught r' g c t is p o u)
+    caught_kept g c t is p o u =
+        kept.at_after u _ _ _ _ (related _ _ o u) (catch_passes _ _) (catch_passes _ _) (catch_kept _ _ _ (λ b v. recovered_kept _ b t is p o v))
 
     goal_kept : (x : Row) (l : ℕ) (cut : Bool) (is : List Item) (p : Place) (o : Bool) (u : Used) → R u (goal_step w r x l cut is p o u) (goal_step w' r' x l cut is p o u)
     unfolding goal_step
     goal_kept Succeeds l cut is p o u = related is p o u
     goal_kept Fails l cut is p o u = kept.at_end Failed tt u
+    goal_kept Cuts l cut is p o u =
+        kept.at_after u _ _ _ _ (related is p cut u) (cut_to_passes l) (cut_to_passes l) (cut_to_kept l)
     goal_kept (Both a b) l cut is p o u = related _ p o u
-    goal_kept (Call g) l cut is p o u =
-        if_ready_kept (ready (apply p.subst g)) is u _ _ (λ h. locally_kept h is p o u)
+    goal_kept (Either a b) l cut is p o u = in_order_kept _ o u
+    goal_kept (IfElse c t e) l cut is p o u = branched_kept c t e l cut is p o u
+    goal_kept (Test c t e) l cut is p o u =
+        if_ready_kept (ready (apply p.subst c)) is u _ _ (λ h. branched_kept h t e l cut is p o u)
+    goal_kept (Differ a b) l cut is p o u = differs_kept (mgu ((a, b) ∷ []) p.subst) l cut is p o u
+    goal_kept (Call g ts) l cut is p o u =
+        if_ready_kept (with_arguments (apply p.subst g) (map (apply p.subst) ts)) is u _ _ (λ h. locally_kept h is p o u)
+    goal_kept (Catch g c t) l cut is p o u =
+        if_ready_kept (ready (apply p.subst g)) is u _ _ (λ h. caught_kept h c t is p o u)
+    goal_kept (Throw b) l cut is p o u = kept.at_end _ tt u
     goal_kept (Predicate i t) l cut is p o u =
-        subst (λ (cs : List Clause). R u (called r (clauses_of i w.clauses) i t is p o u) (called r' (clauses_of i cs) i t is p o u)) (sym kept.same_clauses) (called_kept (clauses_of i w.clauses) i t is p o u)
+        subst (λ (cs : List Clause). R u (called w r (clauses_of i w.clauses) i t is p o u) (called w' r' (clauses_of i cs) i t is p o u)) (sym kept.same_clauses) (called_kept (clauses_of i w.clauses) i t is p o u)
 
     pub item_kept : (i : Item) (is : List Item) (p : Place) (o : Bool) (u : Used) → R u (item_step w r i is p o u) (item_step w' r' i is p o u)
     unfolding item_step

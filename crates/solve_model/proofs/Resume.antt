@@ -1,23 +1,23 @@
 -- What is left to do, one frame at a time.
-use Rattle.std.proofs.Common.{◌≡◌, ◌≢◌, ℕ, suc, Bool, true, false, ◌||◌, List, [], ◌∷◌, ◌++◌, map, reverse, length, ap, refl, sym, ◌∙◌, ◌<◌, ◌≤◌, append_assoc, append-nil, arith, add-one, ◌+◌, Option, Some, None}
+use Rattle.std.proofs.Common.{◌≡◌, ◌≢◌, ℕ, suc, Bool, true, false, ◌||◌, List, [], ◌∷◌, ◌++◌, map, reverse, length, ap, refl, sym, ◌∙◌, ◌<◌, ◌≤◌, append_assoc, append-nil, arith, ◌+◌}
 use Rattle.std.proofs.lemmas.List.{reverse-append, map-append}
+use Rattle.term_core.specs.declared.pi.Pi.{Pi}
 use Rattle.term_core.specs.Tree.{Tree}
+use Rattle.term_core.specs.Parts.{arguments_of}
 use Rattle.term_core.specs.Substitution.{apply}
 use Rattle.term_core.specs.Variables.{numbered}
+use Rattle.builtin_table.specs.Primitives.{Outcome}
+use Rattle.program.specs.Clauses.{Clause}
 use Rattle.solve_model.specs.declared.answers.Trace.{Trace}
 use Rattle.solve_model.specs.declared.answers.TraceMark.{TraceMark}
 use Rattle.solve_model.specs.declared.answers.TraceMark.TheVariants as shown
-use Rattle.solve_model.specs.declared.matching.Match.{Match}
-use Rattle.solve_model.specs.declared.search.Choice.{Choice}
-use Rattle.solve_model.specs.declared.search.End as the_end
 use Rattle.solve_model.specs.declared.search.Frame.{Frame}
 use Rattle.solve_model.specs.declared.search.Frame.TheVariants as frame
 use Rattle.solve_model.specs.declared.search.Item as kept
-use Rattle.solve_model.specs.Goals.{Indicator, existence_error, Ready, Runs, Throws, ready}
-use Rattle.solve_model.specs.Run.{World, Ran, Used, End, Failed, Item, Goal, Place, Branch, Clause, Runner, after, ends, marked, Answered, in_order, some_left, at_failed, at_cut, called, catcher, if_ready, locally, deeper, item_step, one_more, query, start}
+use Rattle.solve_model.specs.Goals.{Ready, Runs, Throws, ready}
+use Rattle.solve_model.specs.Run.{World, Ran, Used, End, Failed, Item, Goal, Place, Branch, Runner, after, ends, marked, Answered, in_order, some_left, at_failed, at_cut, called, performed, item_step, one_more, query, start}
 use Rattle.solve_model.specs.Run as run
-use Rattle.solve_model.specs.Search.{IsMatch, FirstMatch, used_of, place_of, item_of, items_of, alternatives, chosen, runs, resumed, at_frame, traced_after}
-use Rattle.solve_model.specs.Program.{clause_of}
+use Rattle.solve_model.specs.Search.{used_of, item_of, items_of, runs, resumed, at_frame, traced_after}
 use Rattle.solve_model.specs.Trace.{mark_shown, marks_shown, traced, end_shown}
 use Rattle.solve_model.proofs.RunLaws.{run_step, taken_before, taken_at_limit}
 
@@ -90,13 +90,13 @@ first_alternative r bs cs ds b c o u e h =
 
 -- ---- calls
 
-pub unknown_called : (r : Runner) (cs : List Clause) (i : Indicator) (t : Tree) (is : List Item) (p : Place) (o : Bool) (u : Used) → cs ≡ [] → ends (run.Thrown (existence_error i) (catcher is)) u ≡ called r cs i t is p o u
-unknown_called r [] i t is p o u h = refl
-unknown_called r (c ∷ cs) i t is p o u h = cc
+pub unknown_called : (w : World) (r : Runner) (cs : List Clause) (i : Pi) (t : Tree) (is : List Item) (p : Place) (o : Bool) (u : Used) → cs ≡ [] → performed r (w.primitive i.name (arguments_of (apply p.subst t)) p.next) i is p o u ≡ called w r cs i t is p o u
+unknown_called w r [] i t is p o u h = refl
+unknown_called w r (c ∷ cs) i t is p o u h = cc
 
-pub known_called : (r : Runner) (cs ds : List Clause) (i : Indicator) (t : Tree) (is : List Item) (p : Place) (o : Bool) (u : Used) → ds ≡ cs → (cs ≢ []) → after (in_order r (run.entered ds t is p o) o u) (at_cut p.level) ≡ called r cs i t is p o u
-known_called r [] ds i t is p o u e h = absurd (h refl)
-known_called r (c ∷ cs) ds i t is p o u e h = ap (λ (ks : List Clause). after (in_order r (run.entered ks t is p o) o u) (at_cut p.level)) e
+pub known_called : (w : World) (r : Runner) (cs : List Clause) (i : Pi) (t : Tree) (is : List Item) (p : Place) (o : Bool) (u : Used) → (cs ≢ []) → after (in_order r (run.entered cs t is p o) o u) (at_cut p.level) ≡ called w r cs i t is p o u
+known_called w r [] i t is p o u h = absurd (h refl)
+known_called w r (c ∷ cs) i t is p o u h = refl
 
 -- ---- the first item
 
@@ -125,36 +125,6 @@ pub answered : (w : World) (t : Tree) (fs : List Frame) (ms ns : List (ℕ × Tr
 answered w t fs ms ns is p o u a e d h =
     rw (h, d, e, run_of_none w p o u, resumed_marked w fs (Answered p.subst o) u (ends Failed u))
     (traced_marked t ms (Answered p.subst o) u (resumed w fs (ends Failed u)))
-
--- ---- what a step leaves
-
-pub called_locally : (w : World) (u : Used) (fs gs : List Frame) (p : Place) (js ks : List kept.Item) (g : Tree) (o : Bool) (r : Ready) → gs ≡ fs ++ frame.Cut p.level ∷ [] → items_of js ≡ Goal g p.level o ∷ items_of ks → r ≡ Runs g →
-    resumed w gs (runs w (items_of js) (deeper 1 p) o u) ≡ resumed w fs (if_ready r (items_of ks) u (λ h. locally (runs w) h (items_of ks) p o u))
-called_locally w u fs gs p js ks g o r e h d =
-    resumed_push w fs gs (frame.Cut p.level) _ e
-    ∙ ap (λ (is : List Item). resumed w fs (after (runs w is (deeper 1 p) o u) (at_cut p.level))) h
-    ∙ ap (λ (x : Ready). resumed w fs (if_ready x (items_of ks) u (λ h. locally (runs w) h (items_of ks) p o u))) (sym d)
-
-pub chosen_none : (w : World) (u : Used) (fs : List Frame) (c : Choice) → ((is : List Item) (o : Bool) → alternatives w.clauses c.from c.goal is (place_of c.place) o ≡ []) → resumed w fs (ends Failed u) ≡ resumed w fs (chosen w c u)
-chosen_none w u fs c h = ap (resumed w fs) (no_alternative (runs w) _ c.more u (h (items_of c.items.items) c.more))
-
-pub chosen_last : (w : World) (u : Used) (fs : List Frame) (c : Choice) (m : Match) (b : Branch) → IsMatch w.clauses c.goal (place_of c.place) c.from m → ((is : List Item) (o : Bool) → alternatives w.clauses (m.at + 1) c.goal is (place_of c.place) o ≡ []) → b ≡ run.body_branch (clause_of m.clause.now) (items_of c.items.items) (place_of c.place) c.more m.subst →
-    resumed w fs (runs w b.items b.place c.more u) ≡ resumed w fs (chosen w c u)
-chosen_last w u fs c m b h none e =
-    ap (λ (x : Branch). resumed w fs (runs w x.items x.place c.more u)) e
-    ∙ ap (resumed w fs) (last_alternative (runs w) _ _ _ c.more u (h.same (items_of c.items.items) c.more ∙ h.first (items_of c.items.items) c.more) (none (items_of c.items.items) c.more))
-
-pub chosen_first : (w : World) (u : Used) (fs gs : List Frame) (c : Choice) (m n : Match) (b : Branch) → IsMatch w.clauses c.goal (place_of c.place) c.from m → IsMatch w.clauses c.goal (place_of c.place) (m.at + 1) n → b ≡ run.body_branch (clause_of m.clause.now) (items_of c.items.items) (place_of c.place) c.more m.subst → gs ≡ fs ++ frame.Others (record c { from = n.at }) ∷ [] →
-    resumed w gs (runs w b.items b.place true u) ≡ resumed w fs (chosen w c u)
-chosen_first w u fs gs c m n b h k e d =
-    resumed_push w fs gs (frame.Others (record c { from = n.at })) _ d
-    ∙ ap (λ (x : Branch). resumed w fs (after (runs w x.items x.place true u) (at_failed (chosen w (record c { from = n.at }))))) e
-    ∙ ap (λ (bs : List Branch). resumed w fs (after (runs w (run.body_branch (clause_of m.clause.now) (items_of c.items.items) (place_of c.place) c.more m.subst).items (run.body_branch (clause_of m.clause.now) (items_of c.items.items) (place_of c.place) c.more m.subst).place true u) (at_failed (in_order (runs w) bs c.more)))) (k.first (items_of c.items.items) c.more)
-    ∙ ap (resumed w fs) (first_alternative (runs w) _ _ _ _ _ c.more u (h.same (items_of c.items.items) c.more ∙ h.first (items_of c.items.items) c.more) (k.same (items_of c.items.items) c.more ∙ k.first (items_of c.items.items) c.more))
-
-pub no_match : (cs : List Clause) (goal : Tree) (p : Place) (from : ℕ) (r : Option Match) → FirstMatch cs goal p from r → ((m : Match) → r ≡ Some m → ⊥) → (is : List Item) (o : Bool) → alternatives cs from goal is p o ≡ []
-no_match cs goal p from None h n = h
-no_match cs goal p from (Some m) h n = absurd (n m refl)
 
 -- ---- the whole search
 

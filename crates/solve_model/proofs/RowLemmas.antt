@@ -1,209 +1,227 @@
--- What a goal's nodes tell of its row, and which of them are bodies.
-use Rattle.std.proofs.Common.{◌≡◌, ℕ, zero, suc, ◌+◌, ◌-◌, ◌<◌, ◌≤◌, max, ℤ, Bool, true, false, cond, ◌&&◌, ◌==◌, List, [], ◌∷◌, ◌++◌, length, take, drop, get_or, codes, bytes_eq, Option, Some, unwrap_or, refl, ap, sym, ◌∙◌, append_assoc, append-nil, arith, if◌then◌else◌}
-use Rattle.std.specs.List.{list_all}
+-- What a goal's symbol and arguments tell of its row.
+use Rattle.std.proofs.Common.{◌≡◌, ◌≢◌, ℕ, suc, ◌+◌, ◌-◌, ◌<◌, ◌≤◌, ℤ, Bool, true, false, ◌&&◌, ◌==◌, nat_lt, nat_le, List, [], ◌∷◌, ◌++◌, length, codes, bytes_eq, refl, ap, sym, ◌∙◌, arith, if◌then◌else◌, cond}
 use Rattle.std.specs.Cmp.Lexicographic.{bytes_decides}
-use Rattle.std.proofs.lemmas.Bool.{false_from_ne_true, and_parts, eqb-true}
-use Rattle.std.proofs.lemmas.List.{length-append, at_drop_more}
-use Rattle.std.proofs.lemmas.List.Folds.{list_all-append}
+use Rattle.std.proofs.lemmas.Bool.{false_from_ne_true, and_parts, eqb-true, le-leb}
+use borrow.Author.Tests.{leb-true}
 use Rattle.term_core.specs.declared.node.Node.{Node}
 use Rattle.term_core.specs.declared.node.Node.TheVariants as node
-use Rattle.term_core.specs.Tree.{Tree, variable, integer, atom, compound, Trees, no_trees, tree, arity, greatest}
-use Rattle.term_core.specs.Flat.{flatten, flatten_all, first_tree, build, build-flatten}
+use Rattle.term_core.specs.declared.pi.Pi.{Pi}
+use Rattle.term_core.specs.Tree.{Tree, variable, integer, atom, compound, Trees, no_trees, tree, tree_list, trees_of, arity, greatest}
+use Rattle.term_core.specs.Parts.{symbol_of, arguments_of}
 use Rattle.term_core.specs.Variables.{above_all}
-use Rattle.term_core.specs.Preorder.{tree_at}
-use Rattle.solve_model.specs.Goals.{Row, Call, Both, Predicate, Runs, Throws, ready, instantiation_error, type_error, indicator, row_of, row_of_atom, row_of_compound, is_body, are_bodies, is_connective}
-use Rattle.solve_model.specs.Rows.{first_node_of, indicator_of, with_node, node_bodies}
-
-pub some_node : (t : Tree) → 0 < length (flatten t)
-some_node (variable n) = omega arith
-some_node (integer z) = omega arith
-some_node (atom f) = omega arith
-some_node (compound f ts) = omega arith
-
-pub first_of_flatten : (t : Tree) (n : Node) → n ≡ get_or (flatten t) 0 n → n ≡ first_node_of t
-first_of_flatten (variable m) n h = h
-first_of_flatten (integer z) n h = h
-first_of_flatten (atom f) n h = h
-first_of_flatten (compound f ts) n h = h
+use Rattle.builtin_table.specs.Errors.{one_argument, two_arguments}
+use Rattle.program.specs.Bodies.{is_body}
+use Rattle.solve_model.specs.Goals.{Row, Ready, with_arguments, ready_compound, Call, Predicate, Runs, Throws, ready, not_callable, unbound_goal, indicator, row_named, row_of, row_of_atom, row_of_one, row_of_two, row_of_three, row_of_arguments, row_of_compound, is_call}
+use Rattle.solve_model.specs.Rows.{indicator_of, is_call_of}
 
 pub other_text : (f g : List ℕ) → (f ≡ g → ⊥) → bytes_eq f g ≡ false
 other_text f g h = false_from_ne_true (bytes_eq f g) (λ e. h ((bytes_decides f g).0 e))
 
-pub other_atom : (f : List ℕ) → (f ≡ codes "true" → ⊥) → (f ≡ codes "fail" → ⊥) → Predicate (indicator f 0) (atom f) ≡ row_of_atom f
-unfolding row_of_atom
-other_atom f h k = rw (other_text f (codes "true") h, other_text f (codes "fail") k)
+-- none of these rows has the name
+abbrev pub NoneNamed : List ℕ → List (List ℕ × Row) → Type 0
+NoneNamed f [] = Unit {0}
+NoneNamed f (p ∷ ps) = (f ≡ p.0 → ⊥) × NoneNamed f ps
 
--- ---- a conjunction and its parts
+pub not_named : (f : List ℕ) (ps : List (List ℕ × Row)) (r : Row) → NoneNamed f ps → r ≡ row_named f ps r
+not_named f [] r h = refl
+not_named f (p ∷ ps) r h =
+    not_named f ps r h.1 ∙ ap (λ (b : Bool). if b then p.1 else row_named f ps r) (sym (other_text f p.0 h.0))
 
-first_part : (f : List ℕ) (a b : Tree) → tree_at 1 (compound f (tree a (tree b no_trees))) ≡ a
-first_part f a b = ap first_tree (build-flatten a (flatten b ++ []))
-
-drop_front : {A : Type 0} (xs ys : List A) → drop (length xs) (xs ++ ys) ≡ ys
-drop_front [] ys = refl
-drop_front (x ∷ xs) ys = drop_front xs ys
-
-second_part : (f : List ℕ) (a b : Tree) (k : ℕ) → k ≡ 1 + length (flatten a) → tree_at k (compound f (tree a (tree b no_trees))) ≡ b
-second_part f a b k h =
-    let e : k ≡ suc (length (flatten a)) = omega (arith, h) in
-    ap (λ (i : ℕ). tree_at i (compound f (tree a (tree b no_trees)))) e
-    ∙ ap (λ (ns : List Node). first_tree (build ns)) (drop_front (flatten a) (flatten b ++ []))
-    ∙ ap first_tree (build-flatten b [])
-
--- a goal whose first node is a comma of two arguments
-pub record IsConjunction (t : Tree) : Type 0 where
-  pub left : Tree
-  pub right : Tree
-  pub is : t ≡ compound (codes ",") (tree left (tree right no_trees))
-
-pub conjunction : (t : Tree) (f : List ℕ) (k : ℕ) → first_node_of t ≡ node.Comp f k → (k == 2 && bytes_eq f (codes ",")) ≡ true → IsConjunction t
-conjunction (variable n) f k e h = cc
-conjunction (integer z) f k e h = cc
-conjunction (atom a) f k e h = cc
-conjunction (compound a ts) f k e h =
-    let both : ((k == 2) ≡ true) × (bytes_eq f (codes ",") ≡ true) = and_parts (k == 2) (bytes_eq f (codes ",")) h in
-    by ts (let x : arity ts ≡ k = cc in x ∙ eqb-true k 2 both.0) (let x : a ≡ f = cc in x ∙ (bytes_decides f (codes ",")).0 both.1)
+pub length-arguments : (t : Tree) (f : List ℕ) (k : ℕ) → symbol_of t ≡ node.Comp f k → length (arguments_of t) ≡ k
+length-arguments (variable n) f k e = cc
+length-arguments (integer z) f k e = cc
+length-arguments (atom g) f k e = cc
+length-arguments (compound g ts) f k e = counted ts ∙ (let x : arity ts ≡ k = cc in x)
   where
-    by : (ts : Trees) → arity ts ≡ 2 → a ≡ codes "," → IsConjunction (compound a ts)
-    by no_trees i j = absurd (omega (arith, i))
-    by (tree x no_trees) i j = absurd (omega (arith, i))
-    by (tree x (tree y no_trees)) i j = record { left = x; right = y; is = ap (λ (b : List ℕ). compound b (tree x (tree y no_trees))) j }
-    by (tree x (tree y (tree z us))) i j = absurd (omega (arith, i))
+    counted : (us : Trees) → length (tree_list us) ≡ arity us
+    counted no_trees = refl
+    counted (tree u us) = ap suc (counted us)
 
-pub two_parts : (t : Tree) → IsConjunction t → 1 < length (flatten t)
-two_parts t h = rw h.is (omega (arith, some_node h.left, length-append (flatten h.left) (flatten h.right ++ [])))
+pub only_argument : (t : Tree) (f : List ℕ) (a x : Tree) → t ≡ one_argument f a → arguments_of t ≡ x ∷ [] → x ≡ a
+only_argument t f a x e h = let same : a ∷ [] ≡ x ∷ [] = sym (ap arguments_of e) ∙ h in cc
 
-pub second_inside : (t : Tree) → IsConjunction t → (a : Tree) (ns : List Node) → a ≡ tree_at 1 t → ns ≡ flatten a → 1 + length ns < length (flatten t)
-second_inside t h a ns e g =
-    let first : a ≡ h.left = e ∙ ap (tree_at 1) h.is ∙ first_part (codes ",") h.left h.right in
-    let nodes : length ns ≡ length (flatten h.left) = ap length (g ∙ ap flatten first) in
-    rw h.is (omega (arith, nodes, some_node h.right, length-append (flatten h.left) (flatten h.right ++ []), length-append (flatten h.right) []))
+pub both_arguments : (t : Tree) (f : List ℕ) (a b x y : Tree) → t ≡ two_arguments f a b → arguments_of t ≡ x ∷ y ∷ [] → (x ≡ a) × (y ≡ b)
+both_arguments t f a b x y e h =
+    let same : a ∷ b ∷ [] ≡ x ∷ y ∷ [] = sym (ap arguments_of e) ∙ h in (cc, cc)
 
-pub row_of_conjunction : (t : Tree) → IsConjunction t → (a b : Tree) (ns : List Node) → a ≡ tree_at 1 t → ns ≡ flatten a → b ≡ tree_at (1 + length ns) t → Both a b ≡ row_of t
-unfolding row_of row_of_compound
-row_of_conjunction t h a b ns e g d =
-    let first : a ≡ h.left = e ∙ ap (tree_at 1) h.is ∙ first_part (codes ",") h.left h.right in
-    let nodes : 1 + length ns ≡ 1 + length (flatten h.left) = ap (λ (i : ℕ). 1 + i) (ap length (g ∙ ap flatten first)) in
-    let second : b ≡ h.right = d ∙ ap (tree_at (1 + length ns)) h.is ∙ second_part (codes ",") h.left h.right (1 + length ns) nodes in
-    rw (first, second, h.is)
+abbrev pub three : List ℕ → (a b c : Tree) → Tree
+three f a b c = compound f (trees_of (a ∷ b ∷ c ∷ []))
 
-other_compound : (f : List ℕ) (ts : Trees) → (arity ts == 2 && bytes_eq f (codes ",")) ≡ false → Predicate (indicator f (arity ts)) (compound f ts) ≡ row_of_compound f ts
-unfolding row_of_compound
-other_compound f no_trees h = refl
-other_compound f (tree a no_trees) h = refl
-other_compound f (tree a (tree b no_trees)) h = rw h
-other_compound f (tree a (tree b (tree c ts))) h = refl
+pub all_three : (t : Tree) (f : List ℕ) (a b c x y z : Tree) → t ≡ three f a b c → arguments_of t ≡ x ∷ y ∷ z ∷ [] → (x ≡ a) × (y ≡ b) × (z ≡ c)
+all_three t f a b c x y z e h =
+    let same : a ∷ b ∷ c ∷ [] ≡ x ∷ y ∷ z ∷ [] = sym (ap arguments_of e) ∙ h in (cc, cc, cc)
 
-pub row_of_other : (t : Tree) (f : List ℕ) (k : ℕ) → first_node_of t ≡ node.Comp f k → (k == 2 && bytes_eq f (codes ",")) ≡ false → Predicate (indicator_of t) t ≡ row_of t
+pub row_of_variable : (t : Tree) (n : ℕ) → symbol_of t ≡ node.Var n → Call t [] ≡ row_of t
 unfolding row_of
-row_of_other (variable n) f k e h = cc
-row_of_other (integer z) f k e h = cc
-row_of_other (atom a) f k e h = cc
-row_of_other (compound a ts) f k e h =
-    other_compound a ts (ap (λ (b : List ℕ). arity ts == 2 && bytes_eq b (codes ",")) (let x : a ≡ f = cc in x) ∙ ap (λ (i : ℕ). i == 2 && bytes_eq f (codes ",")) (let x : arity ts ≡ k = cc in x) ∙ h)
+row_of_variable (variable m) n e = refl
+row_of_variable (integer z) n e = cc
+row_of_variable (atom f) n e = cc
+row_of_variable (compound f ts) n e = cc
 
--- ---- which trees are bodies
-
-abbrev pub flags : Trees → List Bool
-flags no_trees = []
-flags (tree t ts) = flags ts ++ is_body t ∷ []
-
-length-flags : (ts : Trees) → length (flags ts) ≡ arity ts
-length-flags no_trees = refl
-length-flags (tree t ts) = omega (arith, length-append (flags ts) (is_body t ∷ []), length-flags ts)
-
-and_comm : (a b : Bool) → (a && (b && true)) ≡ (b && a)
-and_comm true true = refl
-and_comm true false = refl
-and_comm false true = refl
-and_comm false false = refl
-
-all-flags : (ts : Trees) → list_all (λ b. b) (flags ts) ≡ are_bodies ts
-unfolding are_bodies
-all-flags no_trees = refl
-all-flags (tree t ts) =
-    list_all-append (λ b. b) (flags ts) (is_body t ∷ []) ∙ ap (λ (b : Bool). b && (is_body t && true)) (all-flags ts) ∙ and_comm (are_bodies ts) (is_body t)
-
-take_front : {A : Type 0} (xs ys : List A) → take (length xs) (xs ++ ys) ≡ xs
-take_front [] ys = refl
-take_front (x ∷ xs) ys = ap (λ zs. x ∷ zs) (take_front xs ys)
-
-flags_kept : (bs : List Bool) (ts : Trees) → length (bs ++ flags ts) - arity ts ≡ length bs
-flags_kept bs ts = omega (arith, length-append bs (flags ts), length-flags ts)
-
-mutual
-  unfolding is_body
-
-  pub node_bodies-flatten : (t : Tree) (ns : List Node) → node_bodies (flatten t ++ ns) ≡ node_bodies ns ++ is_body t ∷ []
-  node_bodies-flatten (variable n) ns = refl
-  node_bodies-flatten (integer z) ns = refl
-  node_bodies-flatten (atom f) ns = refl
-  node_bodies-flatten (compound f ts) ns =
-      rw (node_bodies-flatten_all ts ns, flags_kept (node_bodies ns) ts, take_front (node_bodies ns) (flags ts), drop_front (node_bodies ns) (flags ts), all-flags ts)
-
-  pub node_bodies-flatten_all : (ts : Trees) (ns : List Node) → node_bodies (flatten_all ts ++ ns) ≡ node_bodies ns ++ flags ts
-  node_bodies-flatten_all no_trees ns = sym (append-nil (node_bodies ns))
-  node_bodies-flatten_all (tree t ts) ns =
-      rw (append_assoc (flatten t) (flatten_all ts) ns, node_bodies-flatten t (flatten_all ts ++ ns), node_bodies-flatten_all ts ns)
-      (append_assoc (node_bodies ns) (flags ts) (is_body t ∷ []))
-
-pub greatest_le : (ns : List ℕ) → greatest ns ≤ above_all ns
-greatest_le [] = omega arith
-greatest_le (n ∷ ns) = omega (arith, greatest_le ns)
-
--- one node taken from the back
-pub node_bodies_back : (ns : List Node) (i : ℕ) (n : Node) (k : ℕ) (bs bs' : List Bool) → i < length ns → n ≡ get_or ns k n → k ≡ length ns - 1 - i → bs ≡ node_bodies (drop (length ns - i) ns) → bs' ≡ with_node n bs → bs' ≡ node_bodies (drop (length ns - (i + 1)) ns)
-node_bodies_back ns i n k bs bs' h e j b d =
-    let back : length ns - i ≡ k + 1 = omega (arith, h, j) in
-    let here : length ns - (i + 1) ≡ k = omega (arith, h, j) in
-    rw (d, b, back, here) (ap (λ (x : Node). with_node x (node_bodies (drop (k + 1) ns))) e ∙ sym (at_drop_more node_bodies ns k n (omega (arith, h, j))))
-
-pub row_of_call : (t : Tree) (n : ℕ) → first_node_of t ≡ node.Var n → Call t ≡ row_of t
-unfolding row_of
-row_of_call (variable m) n e = refl
-row_of_call (integer z) n e = cc
-row_of_call (atom f) n e = cc
-row_of_call (compound f ts) n e = cc
-
-pub row_of_integer : (t : Tree) (z : ℤ) → first_node_of t ≡ node.Int z → Call t ≡ row_of t
+pub row_of_integer : (t : Tree) (z : ℤ) → symbol_of t ≡ node.Int z → Call t [] ≡ row_of t
 unfolding row_of
 row_of_integer (variable m) n e = cc
 row_of_integer (integer z) n e = refl
 row_of_integer (atom f) n e = cc
 row_of_integer (compound f ts) n e = cc
 
-pub row_of_atomic : (t : Tree) (f : List ℕ) (r : Row) → first_node_of t ≡ node.Atom f → r ≡ row_of_atom f → r ≡ row_of t
+pub row_of_atomic : (t : Tree) (f : List ℕ) (r : Row) → symbol_of t ≡ node.Atom f → r ≡ row_of_atom f → r ≡ row_of t
 unfolding row_of
 row_of_atomic (variable m) f r e h = cc
 row_of_atomic (integer z) f r e h = cc
 row_of_atomic (atom g) f r e h = h ∙ ap row_of_atom (let x : f ≡ g = cc in x)
 row_of_atomic (compound g ts) f r e h = cc
 
-pub the_atom : (t : Tree) (f : List ℕ) → first_node_of t ≡ node.Atom f → t ≡ atom f
+pub the_atom : (t : Tree) (f : List ℕ) → symbol_of t ≡ node.Atom f → t ≡ atom f
 the_atom (variable m) f e = cc
 the_atom (integer z) f e = cc
 the_atom (atom g) f e = ap atom (let x : g ≡ f = cc in x)
 the_atom (compound g ts) f e = cc
 
--- the only answer, taken off the end
-pub body_popped : (t : Tree) (ns : List Node) (k : ℕ) (bs : List Bool) (n : ℕ) (r : Option Bool) → ns ≡ flatten t → k ≡ 0 → bs ≡ node_bodies (drop k ns) → n ≡ length bs → ((d : Bool) → 0 < n → r ≡ Some (get_or bs (n - 1) d)) → unwrap_or r true ≡ is_body t
-body_popped t ns k bs n r e z b l h =
-    let one : bs ≡ is_body t ∷ [] =
-    b ∙ ap (λ (i : ℕ). node_bodies (drop i ns)) z ∙ ap node_bodies (e ∙ sym (append-nil (flatten t))) ∙ node_bodies-flatten t [] in
-    let size : n ≡ 1 = l ∙ ap length one in
-    let some : r ≡ Some (is_body t) =
-    h true (omega (arith, size)) ∙ ap (λ (i : ℕ). Some (get_or bs (i - 1) true)) size ∙ ap (λ (cs : List Bool). Some (get_or cs 0 true)) one in
-    ap (λ (x : Option Bool). unwrap_or x true) some
+and_swapped : (a b : Bool) → (a && b) ≡ (b && a)
+and_swapped true true = refl
+and_swapped true false = refl
+and_swapped false true = refl
+and_swapped false false = refl
 
-pub ready_variable : (t : Tree) (n : ℕ) → first_node_of t ≡ node.Var n → Throws instantiation_error ≡ ready t
+same_calls : (f : List ℕ) (n : ℕ) → is_call_of f (suc n) ≡ is_call f n
+same_calls f n =
+    ap (λ (b : Bool). (b && nat_le (suc n) 8) && bytes_eq f (codes "call")) (le-leb 1 (suc n) (omega arith)) ∙ and_swapped (nat_lt n 8) (bytes_eq f (codes "call"))
+
+pub some_called : (f : List ℕ) (k : ℕ) → is_call_of f k ≡ true → 1 ≤ k
+some_called f k h =
+    leb-true 1 k ((and_parts (nat_le 1 k) (nat_le k 8) ((and_parts (nat_le 1 k && nat_le k 8) (bytes_eq f (codes "call")) h).0)).0)
+
+pub row_of_added : (t : Tree) (f : List ℕ) (k : ℕ) (g : Tree) (ts : List Tree) → symbol_of t ≡ node.Comp f k → is_call_of f k ≡ true → arguments_of t ≡ g ∷ ts → Call g ts ≡ row_of t
+unfolding row_of row_of_compound
+row_of_added (variable n) f k g ts e h d = cc
+row_of_added (integer z) f k g ts e h d = cc
+row_of_added (atom a) f k g ts e h d = cc
+row_of_added (compound a no_trees) f k g ts e h d = cc
+row_of_added (compound a (tree u us)) f k g ts e h d =
+    let name : a ≡ f = cc in
+    let count : suc (arity us) ≡ k = cc in
+    let first : u ≡ g = cc in
+    let others : tree_list us ≡ ts = cc in
+    let called : is_call a (arity us) ≡ true =
+    sym (same_calls a (arity us)) ∙ ap (λ (b : List ℕ). is_call_of b (suc (arity us))) name ∙ ap (is_call_of f) count ∙ h in
+    rw (called, first, others)
+
+-- a goal that is no call, by its arguments
+of_arguments : (a : List ℕ) (u : Tree) (us : Trees) (f : List ℕ) (k : ℕ) → symbol_of (compound a (tree u us)) ≡ node.Comp f k → is_call_of f k ≡ false → row_of (compound a (tree u us)) ≡ row_of_arguments a u us
+unfolding row_of row_of_compound
+of_arguments a u us f k e h =
+    let name : a ≡ f = cc in
+    let count : suc (arity us) ≡ k = cc in
+    let called : is_call a (arity us) ≡ false =
+    sym (same_calls a (arity us)) ∙ ap (λ (b : List ℕ). is_call_of b (suc (arity us))) name ∙ ap (is_call_of f) count ∙ h in
+    rw called
+
+pub row_by_one : (t : Tree) (f : List ℕ) (k : ℕ) (r : Row) → symbol_of t ≡ node.Comp f k → is_call_of f k ≡ false → k ≡ 1 → ((a : Tree) → t ≡ one_argument f a → r ≡ row_of_one f a) → r ≡ row_of t
+unfolding row_of_arguments
+row_by_one (variable n) f k r e h j g = cc
+row_by_one (integer z) f k r e h j g = cc
+row_by_one (atom a) f k r e h j g = cc
+row_by_one (compound a no_trees) f k r e h j g = absurd (omega (arith, (let x : 0 ≡ k = cc in x), j))
+row_by_one (compound a (tree u no_trees)) f k r e h j g =
+    let name : a ≡ f = cc in
+    g u (ap (λ (b : List ℕ). one_argument b u) name) ∙ ap (λ (b : List ℕ). row_of_one b u) (sym name) ∙ sym (of_arguments a u no_trees f k e h)
+row_by_one (compound a (tree u (tree v us))) f k r e h j g =
+    absurd (omega (arith, (let x : suc (suc (arity us)) ≡ k = cc in x), j))
+
+pub row_by_two : (t : Tree) (f : List ℕ) (k : ℕ) (r : Row) → symbol_of t ≡ node.Comp f k → is_call_of f k ≡ false → k ≡ 2 → ((a b : Tree) → t ≡ two_arguments f a b → r ≡ row_of_two f a b) → r ≡ row_of t
+unfolding row_of_arguments
+row_by_two (variable n) f k r e h j g = cc
+row_by_two (integer z) f k r e h j g = cc
+row_by_two (atom a) f k r e h j g = cc
+row_by_two (compound a no_trees) f k r e h j g = absurd (omega (arith, (let x : 0 ≡ k = cc in x), j))
+row_by_two (compound a (tree u no_trees)) f k r e h j g = absurd (omega (arith, (let x : 1 ≡ k = cc in x), j))
+row_by_two (compound a (tree u (tree v no_trees))) f k r e h j g =
+    let name : a ≡ f = cc in
+    g u v (ap (λ (b : List ℕ). two_arguments b u v) name) ∙ ap (λ (b : List ℕ). row_of_two b u v) (sym name) ∙ sym (of_arguments a u (tree v no_trees) f k e h)
+row_by_two (compound a (tree u (tree v (tree x us)))) f k r e h j g =
+    absurd (omega (arith, (let y : suc (suc (suc (arity us))) ≡ k = cc in y), j))
+
+pub row_by_three : (t : Tree) (f : List ℕ) (k : ℕ) (r : Row) → symbol_of t ≡ node.Comp f k → is_call_of f k ≡ false → k ≡ 3 → ((a b c : Tree) → t ≡ three f a b c → r ≡ row_of_three f a b c) → r ≡ row_of t
+unfolding row_of_arguments
+row_by_three (variable n) f k r e h j g = cc
+row_by_three (integer z) f k r e h j g = cc
+row_by_three (atom a) f k r e h j g = cc
+row_by_three (compound a no_trees) f k r e h j g = absurd (omega (arith, (let x : 0 ≡ k = cc in x), j))
+row_by_three (compound a (tree u no_trees)) f k r e h j g = absurd (omega (arith, (let x : 1 ≡ k = cc in x), j))
+row_by_three (compound a (tree u (tree v no_trees))) f k r e h j g =
+    absurd (omega (arith, (let x : 2 ≡ k = cc in x), j))
+row_by_three (compound a (tree u (tree v (tree x no_trees)))) f k r e h j g =
+    let name : a ≡ f = cc in
+    g u v x (ap (λ (b : List ℕ). three b u v x) name) ∙ ap (λ (b : List ℕ). row_of_three b u v x) (sym name) ∙ sym (of_arguments a u (tree v (tree x no_trees)) f k e h)
+row_by_three (compound a (tree u (tree v (tree x (tree y us))))) f k r e h j g =
+    absurd (omega (arith, (let z : suc (suc (suc (suc (arity us)))) ≡ k = cc in z), j))
+
+pub row_by_more : (t : Tree) (f : List ℕ) (k : ℕ) → symbol_of t ≡ node.Comp f k → is_call_of f k ≡ false → (k ≡ 1 → ⊥) → (k ≡ 2 → ⊥) → (k ≡ 3 → ⊥) → Predicate (indicator_of t) t ≡ row_of t
+unfolding row_of row_of_compound row_of_arguments
+row_by_more (variable n) f k e h i j l = cc
+row_by_more (integer z) f k e h i j l = cc
+row_by_more (atom a) f k e h i j l = cc
+row_by_more (compound a no_trees) f k e h i j l = refl
+row_by_more (compound a (tree u no_trees)) f k e h i j l = absurd (i (let x : k ≡ 1 = cc in x))
+row_by_more (compound a (tree u (tree v no_trees))) f k e h i j l = absurd (j (let x : k ≡ 2 = cc in x))
+row_by_more (compound a (tree u (tree v (tree x no_trees)))) f k e h i j l = absurd (l (let y : k ≡ 3 = cc in y))
+row_by_more (compound a (tree u (tree v (tree x (tree y us))))) f k e h i j l =
+    sym (of_arguments a u (tree v (tree x (tree y us))) f k e h)
+
+pub greatest_le : (ns : List ℕ) → greatest ns ≤ above_all ns
+greatest_le [] = omega arith
+greatest_le (n ∷ ns) = omega (arith, greatest_le ns)
+
+-- ---- terms made ready
+
+pub ready_variable : (t : Tree) (n : ℕ) → symbol_of t ≡ node.Var n → Throws unbound_goal ≡ ready t
 unfolding ready
 ready_variable (variable m) n e = refl
 ready_variable (integer z) n e = cc
 ready_variable (atom f) n e = cc
 ready_variable (compound f ts) n e = cc
 
-pub ready_other : (t : Tree) → ((n : ℕ) → first_node_of t ≡ node.Var n → ⊥) → (if is_body t then Runs t else Throws (type_error (codes "callable") t)) ≡ ready t
+pub ready_other : (t : Tree) → ((n : ℕ) → symbol_of t ≡ node.Var n → ⊥) → (if is_body t then Runs t else Throws (not_callable t)) ≡ ready t
 unfolding ready
 ready_other (variable n) h = absurd (h n refl)
 ready_other (integer z) h = refl
 ready_other (atom f) h = refl
 ready_other (compound f ts) h = refl
+
+-- ---- arguments that are added
+
+pub none_added : (ts : List Tree) (n : ℕ) → n ≡ length ts → (n == 0) ≡ true → ts ≡ []
+none_added [] n e h = refl
+none_added (t ∷ ts) n e h = absurd (omega (arith, e, eqb-true n 0 h))
+
+pub some_added : (ts : List Tree) (n : ℕ) → n ≡ length ts → (n == 0) ≡ false → ts ≢ []
+some_added [] n e h d = let x : true ≡ false = sym (ap (λ (m : ℕ). m == 0) e) ∙ h in cc
+some_added (t ∷ ts) n e h d = cc
+
+pub added_none : (t : Tree) (ts : List Tree) → ts ≡ [] → ready t ≡ with_arguments t ts
+unfolding with_arguments
+added_none (variable n) [] e = refl
+added_none (integer z) [] e = refl
+added_none (atom f) [] e = refl
+added_none (compound f us) [] e = refl
+added_none (variable n) (u ∷ ts) e = cc
+added_none (integer z) (u ∷ ts) e = cc
+added_none (atom f) (u ∷ ts) e = cc
+added_none (compound f us) (u ∷ ts) e = cc
+
+-- what comes of adding some arguments to a goal of this symbol
+abbrev pub added_to : Node → Tree → List Tree → Ready
+added_to (node.Var n) t ts = Throws unbound_goal
+added_to (node.Int z) t ts = Throws (not_callable t)
+added_to (node.Atom f) t ts = ready_compound f ts
+added_to (node.Comp f k) t ts = ready_compound f (arguments_of t ++ ts)
+
+pub added_by_symbol : (t : Tree) (n : Node) (ts : List Tree) → symbol_of t ≡ n → ts ≢ [] → added_to n t ts ≡ with_arguments t ts
+unfolding with_arguments
+added_by_symbol t n [] e h = absurd (h refl)
+added_by_symbol (variable m) n (u ∷ us) e h = ap (λ (x : Node). added_to x (variable m) (u ∷ us)) (sym e)
+added_by_symbol (integer z) n (u ∷ us) e h = ap (λ (x : Node). added_to x (integer z) (u ∷ us)) (sym e)
+added_by_symbol (atom f) n (u ∷ us) e h = ap (λ (x : Node). added_to x (atom f) (u ∷ us)) (sym e)
+added_by_symbol (compound f ts) n (u ∷ us) e h =
+    ap (λ (x : Node). added_to x (compound f ts) (u ∷ us)) (sym e)

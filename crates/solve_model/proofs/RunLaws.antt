@@ -67,6 +67,7 @@ timed_kept w n = record {
   at_end = λ e x u. ends_timed n e u;
   at_after = λ u a a' k k' h ps ps' step. after_timed n u a k h (at_stop (IsTimed n a.used) k a.end a.used ps (ends_timed n Waits a.used) (λ x. step a.end x a.used));
   same_clauses = refl;
+  same_primitive = refl;
 }
 
 -- after one step more
@@ -177,12 +178,13 @@ module _ (S : End → Type 0) (sub : (e : End) → S e → IsStopped e) (n : ℕ
       go (inl e) both = subst (λ (x : Ran). IsLonger S n (after x k) (after b k')) (sym e) (longer_within b k k' both.1)
       go (inr s) both = inr (longer_further l a b k k' s ps both.0)
 
-  module _ (w w' : World) (clauses : w'.clauses ≡ w.clauses) (limits : w.limit ≤ w'.limit) (spent : w.limit < w'.limit → S Spent) (limit : w.limit ≡ n) where
+  module _ (w w' : World) (clauses : w'.clauses ≡ w.clauses) (primitives : w'.primitive ≡ w.primitive) (limits : w.limit ≤ w'.limit) (spent : w.limit < w'.limit → S Spent) (limit : w.limit ≡ n) where
     grows_kept : (m : ℕ) → IsKept (Grows w'.limit m) w w'
     grows_kept m = record {
       at_end = λ e x u. grows_ends w'.limit m e u;
       at_after = λ u a b k k' h ps ps' step. grows_after w'.limit m u a b k k' h ps ps' step;
       same_clauses = clauses;
+      same_primitive = primitives;
     }
 
     goes_on : (u : Used) (b : Ran) → w.limit ≤ u.steps → u.steps < w'.limit → IsTimed w'.limit (one_more u) b → GoesOn S n (ends Spent u) b
@@ -236,7 +238,7 @@ same_run n a b (inr g) = absurd g.stopped
 -- a depth that is enough for the limit is as good as any other
 pub depth_alike : (w : World) (d d' m : ℕ) → w.limit ≤ d + m → w.limit ≤ d' + m → (is : List Item) (p : Place) (o : Bool) (u : Used) → m ≤ u.steps → run w d is p o u ≡ run w d' is p o u
 depth_alike w d d' m h h' is p o u g =
-    same_run w.limit _ _ ((run_grows_on NoEnd (λ e x. absurd x) w.limit w w refl (omega arith) (λ k. absurd (omega (arith, k))) refl d d' m h h' is p o u g).1)
+    same_run w.limit _ _ ((run_grows_on NoEnd (λ e x. absurd x) w.limit w w refl refl (omega arith) (λ k. absurd (omega (arith, k))) refl d d' m h h' is p o u g).1)
 
 -- The run of a query's limit: a step is taken, and the rest is a run again. So the depth may be forgotten.
 pub run_step : (w : World) (i : Item) (is : List Item) (p : Place) (o : Bool) (u : Used) → run w w.limit (i ∷ is) p o u ≡ taken w (run w w.limit) i is p o u
@@ -247,9 +249,9 @@ run_step w i is p o u =
 -- ---- what users hear of
 
 -- an end that isn't a failure of the query's own cut is passed on
-query_longer : (S : End → Type 0) (sub : (e : End) → S e → IsStopped e) (w w' : World) → w'.clauses ≡ w.clauses → w.limit ≤ w'.limit → (w.limit < w'.limit → S Spent) → (g t : Tree) → IsTimed w'.limit unused (query w' g t) × IsLonger S w.limit (query w g t) (query w' g t)
+query_longer : (S : End → Type 0) (sub : (e : End) → S e → IsStopped e) (w w' : World) → w'.clauses ≡ w.clauses → w'.primitive ≡ w.primitive → w.limit ≤ w'.limit → (w.limit < w'.limit → S Spent) → (g t : Tree) → IsTimed w'.limit unused (query w' g t) × IsLonger S w.limit (query w g t) (query w' g t)
 unfolding query
-query_longer S sub w w' clauses limits spent g t = go (ready g)
+query_longer S sub w w' clauses primitives limits spent g t = go (ready g)
   where
     go : (r : Ready) → IsTimed w'.limit unused (elim r as (λ x. Ran) [
       | Runs h ↦ after (run w' w'.limit (Goal h 1 false ∷ []) (start g t) false unused) (at_cut 1)
@@ -262,14 +264,14 @@ query_longer S sub w w' clauses limits spent g t = go (ready g)
       | Throws b ↦ ends (Thrown (numbered b) 0) unused
     ])
     go (Runs h) =
-        (grows_kept S sub w.limit w w' clauses limits spent refl 0).at_after unused _ _ (at_cut 1) (at_cut 1)
-        (run_grows_on S sub w.limit w w' clauses limits spent refl w.limit w'.limit 0 (omega arith) (omega arith) (Goal h 1 false ∷ []) (start g t) false unused)
+        (grows_kept S sub w.limit w w' clauses primitives limits spent refl 0).at_after unused _ _ (at_cut 1) (at_cut 1)
+        (run_grows_on S sub w.limit w w' clauses primitives limits spent refl w.limit w'.limit 0 (omega arith) (omega arith) (Goal h 1 false ∷ []) (start g t) false unused)
         (cut_passes 1) (cut_passes 1)
-        (cut_kept (Grows S sub w.limit w'.limit 0) w w' (grows_kept S sub w.limit w w' clauses limits spent refl 0) 1) (omega arith)
+        (cut_kept (Grows S sub w.limit w'.limit 0) w w' (grows_kept S sub w.limit w w' clauses primitives limits spent refl 0) 1) (omega arith)
     go (Throws b) = (ends_timed w'.limit _ unused, inl refl)
 
 pub more_only_adds : MoreOnlyAdds
-more_only_adds w n ts g t = go (query_longer IsStopped (λ e x. x) w (widened n ts w) refl (omega arith) (λ k. inr refl) g t).1
+more_only_adds w n ts g t = go (query_longer IsStopped (λ e x. x) w (widened n ts w) refl refl (omega arith) (λ k. inr refl) g t).1
   where
     go : IsLonger IsStopped w.limit (query w g t) (query (widened n ts w) g t) → (query (widened n ts w) g t ≡ query w g t) ⊎ (IsStopped (query w g t).end × Begins (query w g t).marks (query (widened n ts w) g t).marks)
     go (inl e) = inl (sym e)
@@ -288,8 +290,8 @@ marks_within-none n (m ∷ ms) h =
 
 pub marks_stand : MarksStand
 marks_stand w n g t =
-    go (query_longer (λ e. e ≡ Spent) (λ e x. inr x) w (record w { limit = w.limit + n }) refl (omega arith) (λ k. refl) g t).1
-    (query_longer NoEnd (λ e x. absurd x) w w refl (omega arith) (λ k. absurd (omega (arith, k))) g t).0
+    go (query_longer (λ e. e ≡ Spent) (λ e x. inr x) w (record w { limit = w.limit + n }) refl refl (omega arith) (λ k. refl) g t).1
+    (query_longer NoEnd (λ e x. absurd x) w w refl refl (omega arith) (λ k. absurd (omega (arith, k))) g t).0
   where
     go : IsLonger (λ e. e ≡ Spent) w.limit (query w g t) (query (record w { limit = w.limit + n }) g t) → IsTimed w.limit unused (query w g t) → (query w g t).marks ≡ marks_within w.limit (query (record w { limit = w.limit + n }) g t).marks
     go (inl e) timed =

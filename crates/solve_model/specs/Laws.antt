@@ -5,7 +5,7 @@ use Rattle.solve_model.specs.Run.{World, Mark, End, Waits, Spent, Ran, query}
 
 -- the world with this many more steps, and with these replies after the others
 abbrev pub widened : ℕ → List Tree → World → World
-widened n ts w = record { clauses = w.clauses; replies = w.replies ++ ts; limit = w.limit + n }
+widened n ts w = record w { replies = w.replies ++ ts; limit = w.limit + n }
 
 -- the first marks begin the second
 abbrev pub Begins : List (ℕ × Mark) → List (ℕ × Mark) → Type 0

@@ -1,6 +1,6 @@
+pub mod Dropping
 pub mod Goals
 pub mod Laws
-pub mod Program
 pub mod Rows
 pub mod Run
 pub mod Search

@@ -1,25 +1,18 @@
 -- What the code reads off a goal.
-use Rattle.std.specs.Prelude.{ℕ, ◌-◌, Bool, true, false, not, bytes_eq, ◌&&◌, ◌==◌, if◌then◌else◌, List, [], ◌∷◌, ◌++◌, length, take, drop}
-use Rattle.std.specs.List.{list_all}
+use Rattle.std.specs.Prelude.{ℕ, Bool, true, false, not, bytes_eq, codes, nat_le, ◌&&◌, ◌==◌, List, []}
 use Rattle.std.specs.Ordering.{is_eq, int_cmp}
 use Rattle.term_core.specs.declared.node.Node.{Node}
 use Rattle.term_core.specs.declared.node.Node.TheVariants as node
+use Rattle.term_core.specs.declared.pi.Pi.{Pi}
 use Rattle.term_core.specs.Tree.{Tree, variable, integer, atom, compound, Trees, arity}
 use Rattle.solve_model.specs.declared.goals.Row.{Row}
 use Rattle.solve_model.specs.declared.goals.Row.TheVariants as row
-use Rattle.solve_model.specs.declared.goals.Ready.{Ready}
-use Rattle.solve_model.specs.declared.goals.Ready.TheVariants as made
+use Rattle.solve_model.specs.declared.ready.Ready.{Ready}
+use Rattle.solve_model.specs.declared.ready.Ready.TheVariants as made
 use Rattle.solve_model.specs.Goals as goals
 
--- a term's outermost symbol
-abbrev pub first_node_of : Tree → Node
-first_node_of (variable n) = node.Var n
-first_node_of (integer z) = node.Int z
-first_node_of (atom f) = node.Atom f
-first_node_of (compound f ts) = node.Comp f (arity ts)
-
 -- the predicate that a goal calls
-abbrev pub indicator_of : Tree → goals.Indicator
+abbrev pub indicator_of : Tree → Pi
 indicator_of (atom f) = goals.indicator f 0
 indicator_of (compound f ts) = goals.indicator f (arity ts)
 indicator_of (variable n) = goals.indicator [] 0
@@ -29,26 +22,31 @@ indicator_of (integer z) = goals.indicator [] 0
 abbrev pub row_as : Tree → Row → goals.Row
 row_as t row.Succeeds = goals.Succeeds
 row_as t row.Fails = goals.Fails
+row_as t row.Cuts = goals.Cuts
 row_as t (row.Both a b) = goals.Both a b
-row_as t row.Call = goals.Call t
+row_as t (row.Either a b) = goals.Either a b
+row_as t (row.IfElse a b c) = goals.IfElse a b c
+row_as t (row.Test a b c) = goals.Test a b c
+row_as t (row.Differ a b) = goals.Differ a b
+row_as t (row.Call g added) = goals.Call g added.items
+row_as t (row.Catch a b c) = goals.Catch a b c
+row_as t (row.Throw a) = goals.Throw a
 row_as t row.Predicate = goals.Predicate (indicator_of t) t
 
 abbrev pub ready_as : Ready → goals.Ready
 ready_as (made.Runs t) = goals.Runs t
 ready_as (made.Throws b) = goals.Throws b
 
--- which of the trees that begin with a node are bodies, from those of the trees after it; the first tree's is last
-abbrev pub with_node : Node → List Bool → List Bool
-with_node (node.Var n) bs = bs ++ true ∷ []
-with_node (node.Int z) bs = bs ++ false ∷ []
-with_node (node.Atom f) bs = bs ++ true ∷ []
-with_node (node.Comp f k) bs =
-    take (length bs - k) bs ++ (if goals.is_connective f && k == 2 then list_all (λ b. b) (drop (length bs - k) bs) else true) ∷ []
+-- whether a compound of this name and so many arguments is call/1 to call/8
+abbrev pub is_call_of : List ℕ → ℕ → Bool
+is_call_of f k = (nat_le 1 k && nat_le k 8) && bytes_eq f (codes "call")
 
--- which of the trees of these nodes are bodies, the first tree's last
-abbrev pub node_bodies : List Node → List Bool
-node_bodies [] = []
-node_bodies (n ∷ ns) = with_node n (node_bodies ns)
+-- the symbol of C -> T
+abbrev pub is_arrow_symbol : Node → Bool
+is_arrow_symbol (node.Var n) = false
+is_arrow_symbol (node.Int z) = false
+is_arrow_symbol (node.Atom f) = false
+is_arrow_symbol (node.Comp f k) = k == 2 && bytes_eq f (codes "->")
 
 -- whether terms that begin with these nodes differ, whatever their variables stand for
 abbrev pub nodes_clash : Node → Node → Bool

@@ -1,24 +1,23 @@
 -- Depth-first resolution (ISO 13211-1, 7.7). A run takes the first item of its list again and again; each item taken is one step.
-use Rattle.std.specs.Prelude.{ℕ, zero, suc, ◌+◌, min, max, Bool, true, false, ◌||◌, ◌&&◌, ◌==◌, List, [], ◌∷◌, ◌++◌, nat_lt, if◌then◌else◌, Option, Some, None, bytes_eq}
-use Rattle.term_core.specs.Tree.{Tree, variable, integer, atom, compound, arity}
+use Rattle.std.specs.Prelude.{ℕ, zero, suc, ◌+◌, min, max, Bool, true, false, ◌||◌, ◌&&◌, ◌==◌, List, [], ◌∷◌, ◌++◌, map, nat_lt, if◌then◌else◌, Option, Some, None, bytes_eq}
+use Rattle.term_core.specs.declared.pi.Pi.{Pi}
+use Rattle.term_core.specs.Tree.{Tree, variable, integer, atom, compound}
+use Rattle.term_core.specs.Parts.{arguments_of}
 use Rattle.term_core.specs.Variables.{renamed, numbered, first_free}
 use Rattle.term_core.specs.Substitution.{apply}
 use Rattle.term_core.specs.Unifier.{mgu}
-use Rattle.solve_model.specs.Goals.{Indicator, Row, Succeeds, Fails, Both, Call, Predicate, row_of, Ready, Runs, Throws, ready, existence_error}
+use Rattle.program.specs.Clauses.{Clause, clauses_of}
+use Rattle.solve_model.specs.Goals.{Row, Succeeds, Fails, Cuts, Both, Either, IfElse, Test, Differ, Call, Catch, Throw, Predicate, row_of, true_goal, fail_goal, Ready, Runs, Throws, ready, with_arguments, unbound_goal, unknown_predicate}
+use Rattle.builtin_table.specs.Primitives.{Offer, Outcome, Offers, Ball, Unknown}
 
 -- a substitution: for each variable bound, its number and its term
 abbrev pub Bindings : Type 0
 Bindings = List (ℕ × Tree)
 
--- a clause, whose variables are numbered from 0 below `vars`
-pub record Clause : Type 0 where
-  pub head : Tree
-  pub body : Tree
-  pub vars : ℕ
-
--- what stays the same in a run: the clauses in the order of the text, the replies to prompts, and the limit of steps
+-- what stays the same in a run: the clauses in the order of the text, the primitives by name over arguments and the next variable, the replies to prompts, and the limit of steps
 pub record World : Type 0 where
   pub clauses : List Clause
+  pub primitive : List ℕ → List Tree → ℕ → Outcome
   pub replies : List Tree
   pub limit : ℕ
 
@@ -42,7 +41,7 @@ pub data End : Type 0 where
   -- the steps are used up
   Spent : End
   -- it called a predicate that reaches outside
-  Outside : Indicator → End
+  Outside : Pi → End
 
 pub data Mark : Type 0 where
   -- an answer, and whether an alternative is left
@@ -106,6 +105,19 @@ cut_to l Failed u = ends (Cut l) u
 cut_to l (Cut m) u = ends (Cut (min l m)) u
 cut_to l e u = ends e u
 
+-- The end of a condition. Where it failed or was cut off, the other goal is run; where it was committed to, its failure is the whole's.
+abbrev pub at_condition : ℕ → (Used → Ran) → End → Used → Ran
+at_condition d other Failed u = other u
+at_condition d other (Cut l) u =
+    elim (l == suc d) [ true ↦ other u | false ↦ ends (if l == d then Failed else Cut l) u ]
+at_condition d other e u = ends e u
+
+-- the end of a goal under a catch of level d: a ball that is thrown to it is handled, and a cut stops as in a call
+abbrev pub at_catch : ℕ → (Tree → Used → Ran) → End → Used → Ran
+at_catch d handler (Cut l) u = ends (if l == d then Failed else Cut l) u
+at_catch d handler (Thrown b l) u = elim (l == d) [ true ↦ handler b u | false ↦ ends (Thrown b l) u ]
+at_catch d handler e u = ends e u
+
 abbrev pub some_left : List Branch → Bool
 some_left [] = false
 some_left (b ∷ bs) = true
@@ -134,17 +146,9 @@ if_ready (Throws b) is u go = throws b is u
 abbrev pub deeper : ℕ → Place → Place
 deeper n p = record p { level = p.level + n }
 
--- whether a clause's head has this indicator
-abbrev pub is_for : Indicator → Tree → Bool
-is_for i (atom f) = bytes_eq i.name f && i.arity == 0
-is_for i (compound f ts) = bytes_eq i.name f && i.arity == arity ts
-is_for i (variable n) = false
-is_for i (integer z) = false
-
--- the clauses of a predicate, in order
-unfoldable pub clauses_of : Indicator → List Clause → List Clause
-clauses_of i [] = []
-clauses_of i (c ∷ cs) = if is_for i c.head then c ∷ clauses_of i cs else clauses_of i cs
+-- the place with another substitution and next variable
+abbrev pub at_subst : Bindings → ℕ → Place → Place
+at_subst s v p = record p { subst = s; next = v }
 
 -- a clause's body before the rest, under the substitution that unifies the renamed head with the goal
 abbrev pub body_branch : Clause → List Item → Place → Bool → Bindings → Branch
@@ -162,22 +166,91 @@ entered (c ∷ cs) t is p o =
       | Some s ↦ body_branch c is p o s ∷ entered cs t is p o
     ]
 
--- a call of a predicate by its clauses, in which a cut is local; without clauses it is unknown
-abbrev pub called : Runner → List Clause → Indicator → Tree → List Item → Place → Bool → Used → Ran
-called run [] i t is p o u = throws (existence_error i) is u
-called run (c ∷ cs) i t is p o u = after (in_order run (entered (c ∷ cs) t is p o) o u) (at_cut p.level)
+-- a result of a primitive, under the substitution that unifies its pairs
+abbrev pub offer_branch : Offer → List Item → Place → Bindings → Branch
+offer_branch r is p s = record { items = is; place = at_subst s (p.next + r.fresh) p }
+
+-- the results of a primitive whose pairs unify, as alternatives
+unfoldable pub offered : List Offer → List Item → Place → List Branch
+offered [] is p = []
+offered (r ∷ rs) is p =
+    elim (mgu r.pairs p.subst) [
+      | None ↦ offered rs is p
+      | Some s ↦ offer_branch r is p s ∷ offered rs is p
+    ]
+
+-- a primitive by what it gives; where no primitive has the indicator, the predicate is unknown
+abbrev pub performed : Runner → Outcome → Pi → List Item → Place → Bool → Used → Ran
+performed run (Offers rs) i is p o u = in_order run (offered rs is p) o u
+performed run (Ball b) i is p o u = throws b is u
+performed run Unknown i is p o u = throws (unknown_predicate i) is u
+
+-- a call of a predicate by its clauses, in which a cut is local, or of a primitive where it has no clauses
+abbrev pub called : World → Runner → List Clause → Pi → Tree → List Item → Place → Bool → Used → Ran
+called w run [] i t is p o u =
+    performed run (w.primitive i.name (arguments_of (apply p.subst t)) p.next) i is p o u
+called w run (c ∷ cs) i t is p o u = after (in_order run (entered (c ∷ cs) t is p o) o u) (at_cut p.level)
 
 -- a goal as by `call`: its cut is local
 abbrev pub locally : Runner → Tree → List Item → Place → Bool → Used → Ran
 locally run g is p o u = after (run (Goal g p.level o ∷ is) (deeper 1 p) o u) (at_cut p.level)
 
+-- A ; B: two alternatives
+abbrev pub either_of : Runner → Tree → Tree → ℕ → Bool → List Item → Place → Bool → Used → Ran
+either_of run a b l cut is p o u =
+    in_order run (record { items = Goal a l cut ∷ is; place = p } ∷ record { items = Goal b l cut ∷ is; place = p } ∷ []) o u
+
+-- C -> T ; E: the condition has a cut of its own, and its success drops its alternatives and E
+abbrev pub branched : Runner → (c t e : Tree) → (l : ℕ) → (cut : Bool) → List Item → Place → Bool → Used → Ran
+branched run c t e l cut is p o u =
+    after (run (Goal c (suc p.level) true ∷ Commit p.level o ∷ Goal t l cut ∷ is) (deeper 2 p) true u)
+    (at_condition p.level (run (Goal e l cut ∷ is) p o))
+
+-- X \= Y, by the unifier of X and Y: as \+ X = Y, where X = Y takes no step
+abbrev pub differs : Runner → Option Bindings → ℕ → Bool → List Item → Place → Bool → Used → Ran
+differs run None l cut is p o u = run (Goal true_goal l cut ∷ is) p o u
+differs run (Some s) l cut is p o u =
+    after (run (Commit p.level o ∷ Goal fail_goal l cut ∷ is) (deeper 2 (at_subst s p.next p)) true u)
+    (at_condition p.level (run (Goal true_goal l cut ∷ is) p o))
+
+-- The recovery of catch(G,C,R), by the unifier of C and the ball, whose variables are new. Where there is none, the ball goes outwards.
+abbrev pub recovered_by : Runner → (s : Option Bindings) → (ball recovery : Tree) → List Item → Place → Bool → Used → Ran
+recovered_by run None ball recovery is p o u = ends (Thrown ball (catcher is)) u
+recovered_by run (Some s) ball recovery is p o u =
+    if_ready (ready (apply s recovery)) is u (λ g. locally run g is (at_subst s (p.next + first_free ball) p) o u)
+
+abbrev pub recovered : Runner → (catching recovery : Tree) → List Item → Place → Bool → Tree → Used → Ran
+recovered run catching recovery is p o ball u =
+    recovered_by run (mgu ((renamed p.next ball, catching) ∷ []) p.subst) ball recovery is p o u
+
+-- catch(G,C,R), where G is ready: its cut is local, and the catch is active until the item ExitCatch
+abbrev pub caught : Runner → (g catching recovery : Tree) → List Item → Place → Bool → Used → Ran
+caught run g catching recovery is p o u =
+    after (run (Goal g p.level o ∷ ExitCatch p.level ∷ is) (deeper 1 p) o u)
+    (at_catch p.level (recovered run catching recovery is p o))
+
+-- throw/1 of a term under the substitution (ISO 13211-1, 7.8.10)
+abbrev pub thrown : Tree → Tree
+thrown (variable n) = unbound_goal
+thrown t = t
+
 -- one goal, by its row of the table
 unfoldable pub goal_step : World → Runner → Row → ℕ → Bool → List Item → Place → Bool → Used → Ran
 goal_step w run Succeeds l cut is p o u = run is p o u
 goal_step w run Fails l cut is p o u = ends Failed u
+goal_step w run Cuts l cut is p o u = after (run is p cut u) (cut_to l)
 goal_step w run (Both a b) l cut is p o u = run (Goal a l cut ∷ Goal b l cut ∷ is) p o u
-goal_step w run (Call g) l cut is p o u = if_ready (ready (apply p.subst g)) is u (λ h. locally run h is p o u)
-goal_step w run (Predicate i t) l cut is p o u = called run (clauses_of i w.clauses) i t is p o u
+goal_step w run (Either a b) l cut is p o u = either_of run a b l cut is p o u
+goal_step w run (IfElse c t e) l cut is p o u = branched run c t e l cut is p o u
+goal_step w run (Test c t e) l cut is p o u =
+    if_ready (ready (apply p.subst c)) is u (λ g. branched run g t e l cut is p o u)
+goal_step w run (Differ a b) l cut is p o u = differs run (mgu ((a, b) ∷ []) p.subst) l cut is p o u
+goal_step w run (Call g ts) l cut is p o u =
+    if_ready (with_arguments (apply p.subst g) (map (apply p.subst) ts)) is u (λ h. locally run h is p o u)
+goal_step w run (Catch g c r) l cut is p o u =
+    if_ready (ready (apply p.subst g)) is u (λ h. caught run h c r is p o u)
+goal_step w run (Throw b) l cut is p o u = throws (thrown (apply p.subst b)) is u
+goal_step w run (Predicate i t) l cut is p o u = called w run (clauses_of i w.clauses) i t is p o u
 
 unfoldable pub item_step : World → Runner → Item → List Item → Place → Bool → Used → Ran
 item_step w run (Goal t l cut) is p o u = goal_step w run (row_of t) l cut is p o u

@@ -1,6 +1,5 @@
 -- A query's run as a trace shows it.
 use Rattle.std.specs.Prelude.{ℕ, Bool, List, map}
-use Rattle.term_core.specs.declared.pi.Pi.{Pi}
 use Rattle.term_core.specs.Tree.{Tree}
 use Rattle.term_core.specs.Substitution.{apply}
 use Rattle.solve_model.specs.declared.answers.Trace.{Trace}
@@ -8,12 +7,13 @@ use Rattle.solve_model.specs.declared.answers.TraceMark.{TraceMark}
 use Rattle.solve_model.specs.declared.answers.TraceMark.TheVariants as shown
 use Rattle.solve_model.specs.declared.answers.TraceEnd.{TraceEnd}
 use Rattle.solve_model.specs.declared.answers.TraceEnd.TheVariants as ended
-use Rattle.solve_model.specs.Goals.{Indicator}
+use Rattle.program.specs.Clauses.{Clause}
+use Rattle.builtin_table.specs.Primitives.{primitive}
 use Rattle.solve_model.specs.Run as run
 
--- the world of a program's clauses
-abbrev pub world_of : List run.Clause → (replies : List Tree) → (limit : ℕ) → run.World
-world_of cs ts n = record { clauses = cs; replies = ts; limit = n }
+-- the world of a program's clauses and the primitives
+abbrev pub world_of : List Clause → (replies : List Tree) → (limit : ℕ) → run.World
+world_of cs ts n = record { clauses = cs; primitive = primitive; replies = ts; limit = n }
 
 -- an answer is the template under its substitution
 abbrev pub mark_shown : Tree → run.Mark → TraceMark
@@ -31,7 +31,7 @@ end_shown (run.Cut l) = ended.Failed
 end_shown (run.Thrown ball l) = ended.Thrown ball
 end_shown run.Waits = ended.Waits
 end_shown run.Spent = ended.Spent
-end_shown (run.Outside i) = ended.Outside (record { name = i.name; arity = i.arity })
+end_shown (run.Outside i) = ended.Outside i
 
 -- a run, where the answers are to show this template
 abbrev pub traced : (template : Tree) → run.Ran → Trace

@@ -1,178 +1,214 @@
-// How a goal is read: what its step is, and which terms may be run as goals.
-ghost use Rattle.std.specs.Prelude.{◌≡◌, ◌&&◌, ◌==◌, if◌then◌else◌, true, bytes_eq, codes, IfOk, OnOk};
-ghost use Rattle.std.specs.List.{list_all};
-ghost use Rattle.term_core.specs.Tree.{atom};
-ghost use Rattle.solve_model.specs.Goals.{two_arguments, error_of as error_of_tree, type_error as type_error_of, instantiation_error as instantiation_error_tree, existence_error as existence_error_of, is_connective as is_connective_name, row_of, row_of_atom as row_of_name, is_body as is_body_tree, ready as ready_tree};
-ghost use Rattle.solve_model.specs.Rows.{first_node_of, indicator_of, row_as, ready_as, with_node};
+// How a goal is read: what its step is.
+ghost use Rattle.std.specs.Prelude.{◌≡◌, [], ◌∷◌, length, false, IfOk};
+ghost use Rattle.term_core.specs.Tree.{Tree, atom, compound, trees_of};
+ghost use Rattle.term_core.specs.Parts.{symbol_of, arguments_of};
+ghost use Rattle.builtin_table.specs.Errors.{one_argument as one_argument_of, two_arguments as two_arguments_of};
+ghost use Rattle.solve_model.specs.Goals.{arrow, counterexample as counterexample_tree, disjunction as disjunction_row, row_of, row_of_atom as row_of_name, row_of_one as row_of_one_tree, row_of_two as row_of_two_trees, row_of_three as row_of_three_trees, true_goal, fail_goal};
+ghost use Rattle.solve_model.specs.Rows.{indicator_of, is_arrow_symbol, is_call_of, row_as};
 
+use crate::arguments::{first_and_others, one_argument, three_arguments, two_arguments};
 use std::alloc::Global;
-use term_core::{Memory, Name, Node, Term};
+use term_core::{Memory, Name, Node, Pi, Term};
 
 // The row of a goal in the table of steps.
 #[derive(Drop)]
 pub(crate) enum Row {
     Succeeds,
     Fails,
+    Cuts,
     Both(Term, Term),
-    Call,
+    Either(Term, Term),
+    IfElse(Term, Term, Term),
+    Test(Term, Term, Term),
+    Differ(Term, Term),
+    Call(Term, Vec<Term>),
+    Catch(Term, Term, Term),
+    Throw(Term),
     Predicate,
-}
-
-// What comes of making a term ready to run as a goal: it runs, or this ball is thrown.
-#[derive(Drop)]
-pub(crate) enum Ready {
-    Runs(Term),
-    Throws(Term),
-}
-
-// A term's outermost symbol.
-pub(crate) fn first_node(term: &Term) -> &Node
-    ensures { result.now ≡ first_node_of term.now }
-{
-    &term.nodes()[0]
 }
 
 pub(crate) fn row_of_goal(alloc: Global, goal: &Term) -> Result<Row, Memory>
     ensures { IfOk result (λ row. row_as goal.now row ≡ row_of goal.now) }
 {
-    match first_node(goal) {
-        Node::Var(_) | Node::Int(_) => Ok(Row::Call),
-        Node::Atom(name) => Ok(row_of_atom(name)),
+    match goal.symbol() {
+        Node::Var(_) | Node::Int(_) => Ok(Row::Call(goal.copied(alloc)?, Vec::new(alloc))),
+        Node::Atom(name) => Ok(row_of_atom(name.as_str())),
         Node::Comp(name, count) => {
-            if is_comma(name, *count) {
-                let first = goal.part(alloc, 1)?;
-                let second = goal.part(alloc, 1 + first.nodes().len())?;
-                Ok(Row::Both(first, second))
+            if is_call(name.as_str(), *count) {
+                let (called, added) = first_and_others(alloc, goal)?;
+                Ok(Row::Call(called, added))
             } else {
-                Ok(Row::Predicate)
+                let row = row_of_compound(alloc, name.as_str(), *count, goal)?;
+                Ok(row)
             }
         }
     }
 }
 
-fn is_comma(name: &Name, count: u32) -> bool
-    ensures { result ≡ (count == 2 && bytes_eq name.now (codes ",")) }
+// Whether this is call/1 to call/8.
+fn is_call(name: &str, count: u32) -> bool
+    ensures { result ≡ is_call_of name.now count }
 {
-    count == 2 && name.as_str() == ","
+    count >= 1 && count <= 8 && name == "call"
 }
 
-fn row_of_atom(name: &Name) -> Row
+fn row_of_atom(name: &str) -> Row
     ensures { row_as (atom name.now) result ≡ row_of_name name.now }
 {
-    match name.as_str() {
+    match name {
         "true" => Row::Succeeds,
-        "fail" => Row::Fails,
+        "fail" | "false" => Row::Fails,
+        "!" => Row::Cuts,
         _ => Row::Predicate,
     }
 }
 
-// A term as `call` takes it: a variable and a term that is no body throw.
-pub(crate) fn make_ready(alloc: Global, goal: Term) -> Result<Ready, Memory>
-    ensures { IfOk result (λ r. ready_as r ≡ ready_tree goal) }
+// The row of a compound that is no call/1 to call/8.
+fn row_of_compound(alloc: Global, name: &str, count: u32, goal: &Term) -> Result<Row, Memory>
+    requires symbol { symbol_of goal.now ≡ Node.Comp name.now count }
+    requires no_call { is_call_of name.now count ≡ false }
+    ensures { IfOk result (λ row. row_as goal.now row ≡ row_of goal.now) }
 {
-    if let Node::Var(_) = first_node(&goal) {
-        let ball = error(alloc, Term::atom(alloc, "instantiation_error")?)?;
-        return Ok(Ready::Throws(ball));
+    match count {
+        1 => {
+            let row = row_of_one(alloc, name, goal)?;
+            Ok(row)
+        }
+        2 => {
+            let row = row_of_two(alloc, name, goal)?;
+            Ok(row)
+        }
+        3 => {
+            let row = row_of_three(alloc, name, goal)?;
+            Ok(row)
+        }
+        _ => Ok(Row::Predicate),
     }
-    if is_body(alloc, &goal)? {
-        Ok(Ready::Runs(goal))
+}
+
+fn row_of_one(alloc: Global, name: &str, goal: &Term) -> Result<Row, Memory>
+    requires { length (arguments_of goal.now) ≡ 1 }
+    ensures { IfOk result (λ row. (a : Tree) → goal.now ≡ one_argument_of name.now a → row_as goal.now row ≡ row_of_one_tree name.now a) }
+{
+    match name {
+        "\\+" => {
+            let condition = one_argument(alloc, goal)?;
+            Ok(Row::Test(condition, fails(alloc)?, succeeds(alloc)?))
+        }
+        "once" => {
+            let condition = one_argument(alloc, goal)?;
+            Ok(Row::Test(condition, succeeds(alloc)?, fails(alloc)?))
+        }
+        "ignore" => {
+            let condition = one_argument(alloc, goal)?;
+            Ok(Row::Test(condition, succeeds(alloc)?, succeeds(alloc)?))
+        }
+        "throw" => Ok(Row::Throw(one_argument(alloc, goal)?)),
+        _ => Ok(Row::Predicate),
+    }
+}
+
+fn row_of_two(alloc: Global, name: &str, goal: &Term) -> Result<Row, Memory>
+    requires { length (arguments_of goal.now) ≡ 2 }
+    ensures { IfOk result (λ row. (a b : Tree) → goal.now ≡ two_arguments_of name.now a b → row_as goal.now row ≡ row_of_two_trees name.now a b) }
+{
+    match name {
+        "," => {
+            let (first, second) = two_arguments(alloc, goal)?;
+            Ok(Row::Both(first, second))
+        }
+        ";" => {
+            let (first, second) = two_arguments(alloc, goal)?;
+            let row = disjunction(alloc, first, second)?;
+            Ok(row)
+        }
+        "->" => {
+            let (condition, then) = two_arguments(alloc, goal)?;
+            Ok(Row::IfElse(condition, then, fails(alloc)?))
+        }
+        "\\=" => {
+            let (first, second) = two_arguments(alloc, goal)?;
+            Ok(Row::Differ(first, second))
+        }
+        "forall" => {
+            let (condition, action) = two_arguments(alloc, goal)?;
+            let condition = counterexample(alloc, condition, action)?;
+            Ok(Row::Test(condition, fails(alloc)?, succeeds(alloc)?))
+        }
+        _ => Ok(Row::Predicate),
+    }
+}
+
+fn row_of_three(alloc: Global, name: &str, goal: &Term) -> Result<Row, Memory>
+    requires { length (arguments_of goal.now) ≡ 3 }
+    ensures { IfOk result (λ row. (a b c : Tree) → goal.now ≡ compound name.now (trees_of (a ∷ b ∷ c ∷ [])) → row_as goal.now row ≡ row_of_three_trees name.now a b c) }
+{
+    match name {
+        "catch" => {
+            let (goal, catching, recovery) = three_arguments(alloc, goal)?;
+            Ok(Row::Catch(goal, catching, recovery))
+        }
+        _ => Ok(Row::Predicate),
+    }
+}
+
+// `A ; B`, or `C -> T ; B` where the first is an arrow.
+fn disjunction(alloc: Global, first: Term, second: Term) -> Result<Row, Memory>
+    ensures { IfOk result (λ row. (goal : Tree) → row_as goal row ≡ disjunction_row (arrow first) first second) }
+{
+    if is_arrow(&first) {
+        let (condition, then) = two_arguments(alloc, &first)?;
+        Ok(Row::IfElse(condition, then, second))
     } else {
-        let kind = Term::atom(alloc, "callable")?;
-        let ball = error(alloc, pair(alloc, "type_error", kind, goal)?)?;
-        Ok(Ready::Throws(ball))
+        Ok(Row::Either(first, second))
     }
 }
 
-// The name of the predicate that a goal calls, and the number of its arguments.
-pub(crate) fn symbol(goal: &Term) -> (&str, u32)
-    ensures name { result.0.now ≡ (indicator_of goal.now).name }
-    ensures arity { result.1 ≡ (indicator_of goal.now).arity }
+fn is_arrow(term: &Term) -> bool
+    ensures { result ≡ is_arrow_symbol (symbol_of term.now) }
 {
-    match first_node(goal) {
-        Node::Atom(name) => (name.as_str(), 0),
-        Node::Comp(name, count) => (name.as_str(), *count),
-        Node::Var(_) | Node::Int(_) => ("", 0),
+    match term.symbol() {
+        Node::Comp(name, count) => *count == 2 && name.as_str() == "->",
+        Node::Var(_) | Node::Int(_) | Node::Atom(_) => false,
     }
 }
 
-// The error of a goal whose predicate is unknown.
-pub(crate) fn existence_error(alloc: Global, goal: &Term) -> Result<Term, Memory>
-    ensures { IfOk result (λ t. t ≡ existence_error_of (indicator_of goal.now)) }
+// What succeeds where an action fails after a condition: `C, \+ A`.
+fn counterexample(alloc: Global, condition: Term, action: Term) -> Result<Term, Memory>
+    ensures { IfOk result (λ t. t ≡ counterexample_tree condition action) }
 {
-    let (name, count) = symbol(goal);
-    let name = Term::atom(alloc, name)?;
-    let count = Term::int(alloc, i128::from(count))?;
-    let kind = Term::atom(alloc, "procedure")?;
-    let culprit = pair(alloc, "/", name, count)?;
-    error(alloc, pair(alloc, "existence_error", kind, culprit)?)
+    let not_action = Term::comp(alloc, "\\+", &vec![in alloc; action]?)?;
+    Term::comp(alloc, ",", &vec![in alloc; condition, not_action]?)
 }
 
-// An error term, whose context is `none`.
-fn error(alloc: Global, formal: Term) -> Result<Term, Memory>
-    ensures { IfOk result (λ t. t ≡ error_of_tree formal) }
+fn succeeds(alloc: Global) -> Result<Term, Memory>
+    ensures { IfOk result (λ t. t ≡ true_goal) }
 {
-    let context = Term::atom(alloc, "none")?;
-    pair(alloc, "error", formal, context)
+    Term::atom(alloc, "true")
 }
 
-fn pair(alloc: Global, name: &str, first: Term, second: Term) -> Result<Term, Memory>
-    ensures { IfOk result (λ t. t ≡ two_arguments name.now first second) }
+fn fails(alloc: Global) -> Result<Term, Memory>
+    ensures { IfOk result (λ t. t ≡ fail_goal) }
 {
-    let args = vec![in alloc; first, second]?;
-    Term::comp(alloc, name, &args)
+    Term::atom(alloc, "fail")
 }
 
-// Whether the term is a body. Each tree's answer stands behind those of the trees after it.
-fn is_body(alloc: Global, term: &Term) -> Result<bool, Memory>
-    ensures { IfOk result (λ b. b ≡ is_body_tree term.now) }
+// The indicator of the predicate that a goal calls.
+pub(crate) fn indicator(alloc: Global, goal: &Term) -> Result<Pi, Memory>
+    ensures { IfOk result (λ pi. pi ≡ indicator_of goal.now) }
 {
-    let nodes = term.nodes();
-    let mut bodies = Vec::new(alloc);
-    for i in 0..nodes.len() {
-        take_node(&mut bodies, &nodes[nodes.len() - 1 - i])?;
+    match goal.symbol() {
+        Node::Atom(name) => Ok(Pi {
+            name: name.copied(alloc)?,
+            arity: 0,
+        }),
+        Node::Comp(name, count) => Ok(Pi {
+            name: name.copied(alloc)?,
+            arity: *count,
+        }),
+        Node::Var(_) | Node::Int(_) => Ok(Pi {
+            name: Name::new(alloc, "")?,
+            arity: 0,
+        }),
     }
-    Ok(bodies.pop().unwrap_or(true))
-}
-
-// Takes a node into the answers for the trees after it.
-fn take_node(bodies: &mut Vec<bool>, node: &Node) -> Result<(), Memory>
-    ensures { OnOk result (bodies.new.items ≡ with_node node.now bodies.old.items) }
-{
-    match node {
-        Node::Var(_) | Node::Atom(_) => bodies.push(true)?,
-        Node::Int(_) => bodies.push(false)?,
-        Node::Comp(name, count) => {
-            let kept = bodies.len().saturating_sub(*count as usize);
-            let is_body = is_compound_body(name, *count, &bodies[kept..]);
-            bodies.truncate(kept);
-            bodies.push(is_body)?;
-        }
-    }
-    Ok(())
-}
-
-// Whether a compound is a body, from whether its arguments are.
-fn is_compound_body(name: &Name, count: u32, args: &[bool]) -> bool
-    ensures { result ≡ (if is_connective_name name.now && count == 2 then list_all (λ b. b) args.now else true) }
-{
-    !(is_connective(name) && count == 2) || are_all(args)
-}
-
-fn are_all(flags: &[bool]) -> bool
-    ensures { result ≡ list_all (λ b. b) flags.now }
-{
-    for flag in flags {
-        if !*flag {
-            return false;
-        }
-    }
-    true
-}
-
-// Whether the name is a connective's, whose two arguments are bodies.
-fn is_connective(name: &Name) -> bool
-    ensures { result ≡ is_connective_name name.now }
-{
-    let text = name.as_str();
-    text == "," || text == ";" || text == "->"
 }

@@ -2,19 +2,23 @@
 #![tactic(auto)]
 
 mod answers;
-mod clause;
+mod arguments;
+mod calls;
+mod catches;
+mod control;
+mod frames;
 mod goals;
+mod items;
 mod laws;
 mod matching;
-mod program;
+mod ready;
+mod results;
 mod search;
 mod solver;
 mod steps;
 mod work;
 
 pub use answers::{Trace, TraceEnd, TraceMark};
-pub use clause::Clause;
 pub use laws::{marks_stand, more_only_adds};
-pub use program::Program;
 pub use solver::trace;
 pub use work::MAX_WORK;

@@ -1,19 +1,18 @@
 // Which clauses' heads unify with a goal.
-ghost use Rattle.std.specs.Prelude.{◌≡◌, ℕ, [], ◌∷◌, MatchOption, IfOk, IsTrue};
+ghost use Rattle.std.specs.Prelude.{◌≡◌, ℕ, [], ◌∷◌, map, IfOk, IsTrue};
 ghost use Rattle.term_core.specs.Unifier.{mgu};
 ghost use Rattle.term_core.specs.Variables.{renamed};
-ghost use Rattle.solve_model.specs.Run.{Bindings, is_for as is_for_head, clauses_of};
-ghost use Rattle.solve_model.specs.Rows.{indicator_of, nodes_clash as nodes_clash_at};
-ghost use Rattle.solve_model.specs.Search.{place_of, FirstMatch, IsFirst};
+ghost use Rattle.program.specs.Kept.{clause_of};
+ghost use Rattle.solve_model.specs.Run.{Bindings};
+ghost use Rattle.solve_model.specs.Rows.{nodes_clash as nodes_clash_at};
+ghost use Rattle.solve_model.specs.Search.{place_of, FirstMatch};
 
-use crate::clause::Clause;
-use crate::goals::{first_node, symbol};
-use crate::program::Program;
 use crate::search::Place;
+use program::Clause;
 use std::alloc::Global;
 use term_core::{Memory, Node, Subst, Term, unify};
 
-// A clause with its place among the clauses, and the substitution that unifies its renamed head with the goal.
+// A clause with its place among the predicate's clauses, and the substitution that unifies its renamed head with the goal.
 #[derive(Drop)]
 pub(crate) struct Match<'a> {
     pub(crate) clause: &'a Clause,
@@ -21,54 +20,23 @@ pub(crate) struct Match<'a> {
     pub(crate) subst: Subst,
 }
 
-// The first clause from a place on whose renamed head unifies with the goal.
+// The first of a predicate's clauses, from a place on, whose renamed head unifies with the goal.
 pub(crate) fn next_match<'a>(
     alloc: Global,
-    program: &'a Program,
+    clauses: &'a [Clause],
     goal: &Term,
     place: &Place,
     from: usize,
 ) -> Result<Option<Match<'a>>, Memory>
-    ensures { IfOk result (λ m. FirstMatch program.now goal.now (place_of place.now) from m) }
+    ensures { IfOk result (λ m. FirstMatch (map clause_of clauses.now) goal.now (place_of place.now) from m) }
 {
-    let clauses = program.clauses();
     for at in from..clauses.len() {
         let clause = &clauses[at];
-        if is_for(goal, &clause.head) {
-            if let Some(subst) = unify_head(alloc, goal, clause, place)? {
-                return Ok(Some(Match { clause, at, subst }));
-            }
+        if let Some(subst) = unify_head(alloc, goal, clause, place)? {
+            return Ok(Some(Match { clause, at, subst }));
         }
     }
     Ok(None)
-}
-
-// The place of the first clause of the goal's predicate.
-pub(crate) fn first_clause(program: &Program, goal: &Term) -> Option<usize>
-    ensures { MatchOption result
-        (clauses_of (indicator_of goal.now) program.now ≡ [])
-        (λ at. IsFirst (indicator_of goal.now) program.now at) }
-{
-    let clauses = program.clauses();
-    for at in 0..clauses.len() {
-        let clause = &clauses[at];
-        if is_for(goal, &clause.head) {
-            return Some(at);
-        }
-    }
-    None
-}
-
-// Whether the head is of the goal's predicate.
-fn is_for(goal: &Term, head: &Term) -> bool
-    ensures { result ≡ is_for_head (indicator_of goal.now) head.now }
-{
-    let (name, count) = symbol(goal);
-    match first_node(head) {
-        Node::Var(_) | Node::Int(_) => false,
-        Node::Atom(other) => count == 0 && name == other.as_str(),
-        Node::Comp(other, other_count) => count == *other_count && name == other.as_str(),
-    }
 }
 
 // The clause takes its own variables, from the place's next on.

@@ -1,7 +1,8 @@
 // What a search keeps: the branch that runs, and what is done at its end.
 use crate::answers::TraceMark;
+use crate::results::{Found, Results};
 use crate::work::Work;
-use term_core::{List, Subst, Term};
+use term_core::{List, Pi, Subst, Term};
 
 // Where a branch stands.
 #[derive(Drop)]
@@ -14,20 +15,26 @@ pub(crate) struct Place {
     pub(crate) level: u64,
 }
 
-// A goal to run; a cut in it goes back to the level, and the flag tells whether an alternative is left there.
+// The level that a cut goes back to, and whether an alternative is left there.
+#[derive(Clone, Copy, Drop)]
+pub(crate) struct Scope {
+    pub(crate) level: u64,
+    pub(crate) more: bool,
+}
+
+// A goal to run, and what a cut in it does.
 #[derive(Drop)]
 pub(crate) struct Goal {
     pub(crate) term: Term,
-    pub(crate) level: u64,
-    pub(crate) more: bool,
+    pub(crate) scope: Scope,
 }
 
 // One thing that is left to do.
 #[derive(Drop)]
 pub(crate) enum Item {
     Goal(Goal),
-    // drops the alternatives above the level
-    Commit(u64, bool),
+    // a condition has succeeded: its alternatives above the level are dropped
+    Commit(Scope),
     // the goal under the catch of this level has succeeded
     ExitCatch(u64),
 }
@@ -37,6 +44,14 @@ pub(crate) enum Item {
 pub(crate) struct Branch {
     pub(crate) items: Vec<Item>,
     pub(crate) place: Place,
+}
+
+// A goal's surroundings: what a cut in it does, what is left to do after it and where, and whether an alternative is left beside it.
+#[derive(Drop)]
+pub(crate) struct Context {
+    pub(crate) scope: Scope,
+    pub(crate) rest: Branch,
+    pub(crate) more: bool,
 }
 
 #[derive(Drop)]
@@ -50,6 +65,7 @@ pub(crate) enum End {
 // A goal's alternatives from a clause on: what is left to do after it, where it was called, and whether an alternative is left beside these.
 #[derive(Drop)]
 pub(crate) struct Choice {
+    pub(crate) pi: Pi,
     pub(crate) goal: Term,
     pub(crate) items: Vec<Item>,
     pub(crate) place: Place,
@@ -57,15 +73,33 @@ pub(crate) struct Choice {
     pub(crate) from: usize,
 }
 
+// A catch: the term that a ball has to unify with, the recovery, what is left to do after it, where it was called, and whether an alternative is left beside it.
+#[derive(Drop)]
+pub(crate) struct Catcher {
+    pub(crate) catching: Term,
+    pub(crate) recovery: Term,
+    pub(crate) items: Vec<Item>,
+    pub(crate) place: Place,
+    pub(crate) more: bool,
+}
+
 // What is done at the end of a run, where an end that isn't named passes.
 #[derive(Drop)]
 pub(crate) enum Frame {
-    // at a failure the other alternatives are run
-    Others(Choice),
+    // at a failure the other clauses are tried
+    Clauses(Choice),
+    // at a failure the next result of a primitive is taken
+    Results(Found, Results),
+    // at a failure the other branch is run
+    Other(Branch, bool),
     // a cut of this level stops
     Cut(u64),
     // a failure drops the alternatives of this level
     CutTo(u64),
+    // a condition at the branch's place: where it fails, the branch is run
+    Condition(Branch, bool),
+    // a catch at its place
+    Catch(Catcher),
 }
 
 // What a search does next.

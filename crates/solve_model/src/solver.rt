@@ -5,11 +5,11 @@ ghost use Rattle.solve_model.specs.Search.{end_of, place_of, traced_after, used_
 ghost use Rattle.solve_model.specs.Trace.{world_of, traced};
 
 use crate::answers::{Trace, TraceEnd, TraceMark};
-use crate::goals::{Ready, make_ready};
-use crate::program::Program;
-use crate::search::{Branch, End, Frame, Goal, Item, Now, Place, Search, Stack};
+use crate::ready::{Ready, make_ready};
+use crate::search::{Branch, End, Frame, Goal, Item, Now, Place, Scope, Search, Stack};
 use crate::steps::{frame_step, item_step};
 use crate::work::Work;
+use program::Program;
 use std::alloc::Global;
 use term_core::{List, Memory, Subst, Term};
 
@@ -38,8 +38,10 @@ pub fn trace(
             let items = vec![in alloc;
                 Item::Goal(Goal {
                     term,
-                    level: 1,
-                    more: false
+                    scope: Scope {
+                        level: 1,
+                        more: false
+                    }
                 }),
             ]?;
             let place = start(alloc, goal, template)?;

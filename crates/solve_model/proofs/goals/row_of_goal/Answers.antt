@@ -1,36 +1,37 @@
-use Rattle.std.proofs.Common.{ap, sym, ◌∙◌, inl, inr}
-use Rattle.term_core.specs.Tree.{Tree}
-use Rattle.solve_model.specs.Rows.{row_as}
-use Rattle.solve_model.proofs.RowLemmas.{IsConjunction, conjunction, two_parts, second_inside, row_of_conjunction, row_of_other, row_of_call, row_of_integer, row_of_atomic, the_atom}
-use Rattle.solve_model.proofs.goals.row_of_goal.Goals.{Then-is_comma}
+use Rattle.std.proofs.Common.{ℕ, List, ap, arith, inl, inr, sym, ◌∙◌}
+use Rattle.term_core.specs.declared.node.Node.TheVariants as node
+use Rattle.term_core.specs.Tree.{Tree, atom}
+use Rattle.solve_model.specs.Goals.{row_of_atom}
+use Rattle.solve_model.specs.Rows.{is_call_of, row_as}
+use Rattle.solve_model.proofs.RowLemmas.{length-arguments, some_called, row_of_variable, row_of_integer, row_of_atomic, row_of_added, the_atom}
 use Rattle.solve_model.proofs.goals.row_of_goal.Goals as goal
 
-is_conjunction : (c : Then-is_comma) → IsConjunction c.args.goal.now
-is_conjunction c =
-    conjunction c.args.goal.now c.in-Comp.name c.in-Comp.count (sym c.first_node.ensures ∙ c.in-Comp.is) (sym c.is_comma.ensures ∙ c.if-is_comma.true)
-
-pub part-requires : goal.part-requires
-part-requires c = two_parts c.args.goal.now (is_conjunction c)
-
-pub part-requires-then-is_comma : goal.part-requires-then-is_comma
-part-requires-then-is_comma c =
-    second_inside c.args.goal.now (is_conjunction (goal.at.part-requires-then-is_comma c).Then-is_comma) c.in_ok-first-in-Comp.first c.nodes.result.now c.in_ok-first-in-Comp.ensures c.nodes.ensures.nodes
+pub returns-in_ok-copied-in-Var : goal.returns-in_ok-copied-in-Var
+returns-in_ok-copied-in-Var c =
+    rw (c.in_ok-copied-in-Var.ensures, c.new.ensures.items)
+    (elim c.in-Var.is [
+      | inl h ↦ row_of_variable c.args.goal.now h.0 (sym c.symbol.ensures ∙ h.1)
+      | inr h ↦ row_of_integer c.args.goal.now h.0 (sym c.symbol.ensures ∙ h.1)
+    ])
 
 pub returns-in-Atom : goal.returns-in-Atom
 returns-in-Atom c =
-    row_of_atomic c.args.goal.now c.in-Atom.name _ (sym c.first_node.ensures ∙ c.in-Atom.is)
-    (ap (λ (t : Tree). row_as t c.row_of_atom.result) (the_atom c.args.goal.now c.in-Atom.name (sym c.first_node.ensures ∙ c.in-Atom.is)) ∙ c.row_of_atom.ensures)
+    let same = sym c.symbol.ensures ∙ c.in-Atom.is in
+    row_of_atomic c.args.goal.now c.in-Atom.name _ same
+    (ap (λ (t : Tree). row_as t c.row_of_atom.result) (the_atom c.args.goal.now c.in-Atom.name same)
+    ∙ ap (λ (f : List ℕ). row_as (atom f) c.row_of_atom.result) (sym c.as_str.ensures)
+    ∙ c.row_of_atom.ensures ∙ ap row_of_atom c.as_str.ensures)
 
-pub returns-in_ok-second-in-Comp : goal.returns-in_ok-second-in-Comp
-returns-in_ok-second-in-Comp c =
-    row_of_conjunction c.args.goal.now (is_conjunction (goal.at.returns-in_ok-second-in-Comp c).Then-is_comma) c.in_ok-first-in-Comp.first c.in_ok-second-in-Comp.second c.nodes.result.now c.in_ok-first-in-Comp.ensures c.nodes.ensures.nodes c.in_ok-second-in-Comp.ensures
+pub first_and_others-requires : goal.first_and_others-requires
+first_and_others-requires c =
+    omega (arith, length-arguments c.args.goal.now c.in-Comp.name c.in-Comp.count (sym c.symbol.ensures ∙ c.in-Comp.is), some_called c.as_str-in-Comp.result.now c.in-Comp.count (sym c.is_call.ensures ∙ c.if-is_call.true))
 
-pub returns-else-is_comma : goal.returns-else-is_comma
-returns-else-is_comma c =
-    row_of_other c.args.goal.now c.in-Comp.name c.in-Comp.count (sym c.first_node.ensures ∙ c.in-Comp.is) (sym c.is_comma.ensures ∙ c.if-is_comma.false)
+pub row_of_compound-requires : goal.row_of_compound-requires
+row_of_compound-requires c = record {
+  symbol = sym c.symbol.ensures ∙ c.in-Comp.is ∙ ap (λ (f : List ℕ). node.Comp f c.in-Comp.count) (sym c.as_str-else-is_call.ensures);
+  no_call = ap (λ (f : List ℕ). is_call_of f c.in-Comp.count) (c.as_str-else-is_call.ensures ∙ sym c.as_str-in-Comp.ensures) ∙ sym c.is_call.ensures ∙ c.if-is_call.false;
+}
 
-pub returns-in-Var : goal.returns-in-Var
-returns-in-Var c = elim c.in-Var.is [
-  | inl h ↦ row_of_call c.args.goal.now h.0 (sym c.first_node.ensures ∙ h.1)
-  | inr h ↦ row_of_integer c.args.goal.now h.0 (sym c.first_node.ensures ∙ h.1)
-]
+pub returns-in_ok-called-in-Comp : goal.returns-in_ok-called-in-Comp
+returns-in_ok-called-in-Comp c =
+    row_of_added c.args.goal.now c.in-Comp.name c.in-Comp.count _ _ (sym c.symbol.ensures ∙ c.in-Comp.is) (ap (λ (f : List ℕ). is_call_of f c.in-Comp.count) (sym c.as_str-in-Comp.ensures) ∙ sym c.is_call.ensures ∙ c.if-is_call.true) c.in_ok-called-in-Comp.ensures

@@ -3,7 +3,7 @@ use Rattle.solve_model.specs.Run.{Item, Goal, goal_step}
 use Rattle.solve_model.specs.Rows.{row_as}
 use Rattle.solve_model.specs.Search.{items_of, place_of, resumed, runs}
 use Rattle.solve_model.specs.Trace.{world_of}
-use Rattle.solve_model.proofs.Resume.{items_pushed}
+use Rattle.solve_model.proofs.Choosing.{same_run}
 use Rattle.solve_model.proofs.steps.goal_step.Goals as goal
 
 pub returns-in-Succeeds : goal.returns-in-Succeeds
@@ -14,18 +14,61 @@ pub returns-in-Fails : goal.returns-in-Fails
 unfolding goal_step
 returns-in-Fails c = λ ts limit u. rw (sym c.in_ok-row_of_goal.ensures ∙ ap (row_as c.args.goal.term) c.in-Fails.is)
 
-pub returns-in_ok-push-in-Both-2 : goal.returns-in_ok-push-in-Both-2
+pub returns-in_ok-branch-in-Both : goal.returns-in_ok-branch-in-Both
 unfolding goal_step
-returns-in_ok-push-in-Both-2 c = λ ts limit u.
+returns-in_ok-branch-in-Both c = λ ts limit u.
     rw (sym c.in_ok-row_of_goal.ensures ∙ ap (row_as c.args.goal.term) c.in-Both.is)
-    (ap (λ (is : List Item). resumed (world_of c.args.program.now ts limit) c.args.stack.now.frames.items (runs (world_of c.args.program.now ts limit) is (place_of c.args.rest.place) c.args.more u))
-    (items_pushed c.push.new.self.items c.push-in-Both.new.self.items _ c.in_ok-push-in-Both-2.ensures.items
-    ∙ ap (λ (is : List Item). Goal c.in-Both.first c.args.goal.level c.args.goal.more ∷ is) (items_pushed c.args.rest.items.items c.push.new.self.items _ c.in_ok-push-in-Both.ensures.items)))
+    (ap (resumed (world_of c.args.program.now ts limit) c.args.stack.now.frames.items)
+    (same_run (world_of c.args.program.now ts limit) _ _ _ _ c.args.more u
+    (c.in_ok-branch-in-Both.ensures.items ∙ ap (λ (is : List Item). Goal c.in-Both.first c.args.goal.scope.level c.args.goal.scope.more ∷ is) c.in_ok-rest-in-Both.ensures.items)
+    (ap place_of (c.in_ok-branch-in-Both.ensures.place ∙ c.in_ok-rest-in-Both.ensures.place))))
+
+pub returns-in_ok-now-in-Cuts : goal.returns-in_ok-now-in-Cuts
+unfolding goal_step
+returns-in_ok-now-in-Cuts c = λ ts limit u.
+    rw (sym c.in_ok-row_of_goal.ensures ∙ ap (row_as c.args.goal.term) c.in-Cuts.is)
+    (c.in_ok-now-in-Cuts.ensures (world_of c.args.program.now ts limit) u)
+
+pub returns-in_ok-now-in-Either : goal.returns-in_ok-now-in-Either
+unfolding goal_step
+returns-in_ok-now-in-Either c = λ ts limit u.
+    rw (sym c.in_ok-row_of_goal.ensures ∙ ap (row_as c.args.goal.term) c.in-Either.is)
+    (c.in_ok-now-in-Either.ensures (world_of c.args.program.now ts limit) u)
+
+pub returns-in_ok-now-in-IfElse : goal.returns-in_ok-now-in-IfElse
+unfolding goal_step
+returns-in_ok-now-in-IfElse c = λ ts limit u.
+    rw (sym c.in_ok-row_of_goal.ensures ∙ ap (row_as c.args.goal.term) c.in-IfElse.is)
+    (c.in_ok-now-in-IfElse.ensures (world_of c.args.program.now ts limit) u)
+
+pub returns-in_ok-now-in-Test : goal.returns-in_ok-now-in-Test
+unfolding goal_step
+returns-in_ok-now-in-Test c = λ ts limit u.
+    rw (sym c.in_ok-row_of_goal.ensures ∙ ap (row_as c.args.goal.term) c.in-Test.is)
+    (c.in_ok-now-in-Test.ensures (world_of c.args.program.now ts limit) u)
+
+pub returns-in_ok-now-in-Differ : goal.returns-in_ok-now-in-Differ
+unfolding goal_step
+returns-in_ok-now-in-Differ c = λ ts limit u.
+    rw (sym c.in_ok-row_of_goal.ensures ∙ ap (row_as c.args.goal.term) c.in-Differ.is)
+    (c.in_ok-now-in-Differ.ensures (world_of c.args.program.now ts limit) u)
+
+pub returns-in_ok-now-in-Catch : goal.returns-in_ok-now-in-Catch
+unfolding goal_step
+returns-in_ok-now-in-Catch c = λ ts limit u.
+    rw (sym c.in_ok-row_of_goal.ensures ∙ ap (row_as c.args.goal.term) c.in-Catch.is)
+    (c.in_ok-now-in-Catch.ensures (world_of c.args.program.now ts limit) u)
+
+pub returns-in_ok-now-in-Throw : goal.returns-in_ok-now-in-Throw
+unfolding goal_step
+returns-in_ok-now-in-Throw c = λ ts limit u.
+    rw (sym c.in_ok-row_of_goal.ensures ∙ ap (row_as c.args.goal.term) c.in-Throw.is)
+    (c.in_ok-now-in-Throw.ensures (world_of c.args.program.now ts limit) u)
 
 pub returns-in_ok-now-in-Call : goal.returns-in_ok-now-in-Call
 unfolding goal_step
 returns-in_ok-now-in-Call c = λ ts limit u.
-    rw (sym c.in_ok-row_of_goal.ensures ∙ ap (row_as c.args.goal.term) c.in-Call.is)
+    rw (sym c.in_ok-row_of_goal.ensures ∙ ap (row_as c.args.goal.term) c.in-Call.is, sym c.deref.ensures.value)
     (c.in_ok-now-in-Call.ensures (world_of c.args.program.now ts limit) u)
 
 pub returns-in_ok-now-in-Predicate : goal.returns-in_ok-now-in-Predicate

@@ -1,8 +1,0 @@
-use Rattle.std.proofs.Common.{arith}
-use Rattle.term_core.specs.Variables.{occurrences}
-use Rattle.solve_model.proofs.RowLemmas.{greatest_le}
-use Rattle.solve_model.proofs.steps.body_branch.Goals as goal
-
-pub rename-requires : goal.rename-requires
-rename-requires c =
-    omega (arith, greatest_le (occurrences c.args.clause.now.body), c.args.clause.now.body_below)
