@@ -11,7 +11,7 @@ mod program;
 mod source;
 mod texts;
 
-pub use bodies::is_body;
+pub use bodies::{is_body, is_connective};
 pub use clause::Clause;
 pub use fault::ProgFault;
 pub use program::Program;
