@@ -13,6 +13,7 @@ use Rattle.program.specs.declared.clause_map.Place.{Place}
 use Rattle.program.specs.ByPredicate.{ByArity, found, at_place, in_order, IsHeld, IsByPredicate}
 use Rattle.program.specs.Clauses.{Clause, indicator_of, is_for, clauses_of}
 use Rattle.program.specs.Source.{defines, program_of}
+use Rattle.program.specs.Laws.{or_else, ClientReplacesLibrary}
 use Rattle.program.proofs.Keeping.{clauses_of-append}
 use Rattle.program.proofs.SourceLemmas.{is_own}
 
@@ -71,21 +72,29 @@ module _ (pi : Pi) (own : List Clause) (defined : Bool) (has : some_of (clauses_
       by true e h = same_left c cs e h
       by false e h = other_left c cs e ∙ h ∙ rw e refl
 
--- where the client has none
-pub library_answers : (pi : Pi) (library own : List Clause) (mine theirs : List kept.Clause) → map clause_of mine ≡ clauses_of pi own → (length mine == 0) ≡ true → map clause_of theirs ≡ clauses_of pi library → map clause_of theirs ≡ clauses_of pi (program_of library own)
+pub replaced : ClientReplacesLibrary
 unfolding program_of
-library_answers pi library own [] theirs m e t =
-    t ∙ sym (clauses_of-append pi (rest pi own false (ap some_of (sym m)) library) own
-    ∙ rw (← m, left_of pi own false (ap some_of (sym m)) library) (append-nil (clauses_of pi library)))
-library_answers pi library own (c ∷ cs) theirs m e t = absurd (omega (arith, eqb-true (length (c ∷ cs)) 0 e))
+replaced i library own = by (clauses_of i own) refl
+  where
+    by : (cs : List Clause) → clauses_of i own ≡ cs → clauses_of i (program_of library own) ≡ or_else cs (clauses_of i library)
+    by [] e =
+        clauses_of-append i (rest i own false (ap some_of e) library) own
+        ∙ rw (e, left_of i own false (ap some_of e) library) (append-nil (clauses_of i library))
+    by (c ∷ cs) e =
+        clauses_of-append i (rest i own true (ap some_of e) library) own
+        ∙ rw (e, left_of i own true (ap some_of e) library) refl
+
+-- where the client has none
+pub library_answers : (i : Pi) (library own : List Clause) (mine theirs : List kept.Clause) → map clause_of mine ≡ clauses_of i own → (length mine == 0) ≡ true → map clause_of theirs ≡ clauses_of i library → map clause_of theirs ≡ clauses_of i (program_of library own)
+library_answers i library own [] theirs m e t =
+    t ∙ sym (replaced i library own ∙ ap (λ (cs : List Clause). or_else cs (clauses_of i library)) (sym m))
+library_answers i library own (c ∷ cs) theirs m e t = absurd (omega (arith, eqb-true (length (c ∷ cs)) 0 e))
 
 -- where it has some
-pub own_answers : (pi : Pi) (library own : List Clause) (mine : List kept.Clause) → map clause_of mine ≡ clauses_of pi own → (length mine == 0) ≡ false → map clause_of mine ≡ clauses_of pi (program_of library own)
-unfolding program_of
-own_answers pi library own [] m e = cc
-own_answers pi library own (c ∷ cs) m e =
-    m ∙ sym (clauses_of-append pi (rest pi own true (ap some_of (sym m)) library) own
-    ∙ rw (left_of pi own true (ap some_of (sym m)) library) refl)
+pub own_answers : (i : Pi) (library own : List Clause) (mine : List kept.Clause) → map clause_of mine ≡ clauses_of i own → (length mine == 0) ≡ false → map clause_of mine ≡ clauses_of i (program_of library own)
+own_answers i library own [] m e = cc
+own_answers i library own (c ∷ cs) m e =
+    sym (replaced i library own ∙ ap (λ (ds : List Clause). or_else ds (clauses_of i library)) (sym m))
 
 -- ---- the clauses in order
 

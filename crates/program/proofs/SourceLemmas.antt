@@ -1,17 +1,16 @@
 -- What the terms of a source text say, by their symbols and arguments.
-use Rattle.std.proofs.Common.{◌≡◌, ℕ, suc, ◌+◌, ◌≤◌, max, Bool, true, false, ◌&&◌, ◌||◌, ◌==◌, List, [], ◌∷◌, ◌++◌, length, codes, bytes_eq, Option, Some, None, is_some, if◌then◌else◌, subst, refl, ap, sym, ◌∙◌, append-nil, arith}
+use Rattle.std.proofs.Common.{◌≡◌, ℕ, suc, ◌≤◌, Bool, true, false, ◌&&◌, ◌||◌, ◌==◌, List, [], ◌∷◌, ◌++◌, length, codes, bytes_eq, Option, Some, None, is_some, if◌then◌else◌, subst, refl, ap, sym, ◌∙◌, arith}
 use Rattle.std.specs.Cmp.Lexicographic.{bytes_decides}
 use Rattle.std.proofs.lemmas.Bool.{false_from_ne_true, and_parts, eqb-true}
 use Rattle.std.proofs.lemmas.List.{length-append}
 use Rattle.term_core.specs.declared.pi.Pi.{Pi}
 use Rattle.term_core.specs.Tree.{Tree, variable, integer, atom, compound, Trees, no_trees, tree, tree_list, arity}
 use Rattle.term_core.specs.Parts.{symbol_of, arguments_of}
-use Rattle.term_core.specs.Variables.{occurrences, all_occurrences, variables, above_all, first_free}
+use Rattle.term_core.specs.Variables.{occurrences, variables, above_all, first_free}
 use Rattle.program.specs.declared.source.Item.{Item}
 use Rattle.program.specs.declared.source.Item.TheVariants.{Directive, Rule}
 use Rattle.program.specs.Bodies.{is_body}
 use Rattle.program.specs.Clauses.{Clause, indicator_of, is_for}
-use Rattle.program.specs.declared.fault.ProgFault.{ProgFault}
 use Rattle.program.specs.declared.fault.ProgFault.TheVariants.{BadDirective, NotCallable}
 use Rattle.program.specs.Source.{fact, item_of, clause_in, are_imports, is_operator, is_directive, redefines, fault_at, fault_of}
 use Rattle.program.specs.Symbols.{is_neck, functor_of}

@@ -2,5 +2,6 @@ pub mod Bodies
 pub mod ByPredicate
 pub mod Clauses
 pub mod Kept
+pub mod Laws
 pub mod Source
 pub mod Symbols

@@ -3,7 +3,7 @@ use Rattle.std.specs.Prelude.{◌≡◌, ℕ, ◌+◌, Bool, true, false, not, �
 use Rattle.std.specs.List.{list_any, filter_map}
 use Rattle.term_core.specs.declared.pi.Pi.{Pi}
 use Rattle.term_core.specs.declared.read_term.ReadTerm.{ReadTerm}
-use Rattle.term_core.specs.Tree.{Tree, variable, integer, atom, compound, Trees, no_trees, tree, tree_list}
+use Rattle.term_core.specs.Tree.{Tree, integer, atom, compound, Trees, no_trees, tree, tree_list}
 use Rattle.term_core.specs.Variables.{variables, first_free}
 use Rattle.op_table.specs.Table.{asked}
 use Rattle.program.specs.declared.source.Item.{Item}
@@ -11,7 +11,7 @@ use Rattle.program.specs.declared.source.Item.TheVariants.{Directive, Rule}
 use Rattle.program.specs.declared.fault.ProgFault.{ProgFault}
 use Rattle.program.specs.declared.fault.ProgFault.TheVariants.{BadDirective, NotCallable, Redefines, Memory}
 use Rattle.program.specs.Bodies.{is_body}
-use Rattle.program.specs.Clauses.{Clause, indicator_of, is_for, same_indicator, clauses_of}
+use Rattle.program.specs.Clauses.{Clause, indicator_of, is_for, same_indicator}
 
 -- What a term of a source text is: `:- D` a directive, `Head :- Body` a rule, and any other term a fact, which is a rule whose body is `true`.
 abbrev pub fact : Tree → Item

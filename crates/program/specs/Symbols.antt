@@ -3,7 +3,7 @@ use Rattle.std.specs.Prelude.{ℕ, ◌-◌, Bool, true, false, ◌&&◌, ◌||�
 use Rattle.std.specs.List.{list_all}
 use Rattle.term_core.specs.declared.node.Node.{Node}
 use Rattle.term_core.specs.declared.node.Node.TheVariants.{Var, Int, Atom, Comp}
-use Rattle.term_core.specs.Tree.{Tree, variable, integer, atom, compound}
+use Rattle.term_core.specs.Tree.{Tree, compound}
 use Rattle.op_table.specs.Table.{asked}
 use Rattle.program.specs.Bodies.{is_connective}
 

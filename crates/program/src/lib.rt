@@ -7,6 +7,7 @@ mod clause_map;
 mod directive;
 mod entry;
 mod fault;
+mod laws;
 mod program;
 mod source;
 mod texts;
@@ -14,6 +15,7 @@ mod texts;
 pub use bodies::{is_body, is_connective};
 pub use clause::Clause;
 pub use fault::ProgFault;
+pub use laws::client_replaces_library;
 pub use program::Program;
 
 #[cfg(test)]

@@ -1,4 +1,4 @@
-use Rattle.std.proofs.Common.{◌≡◌, rules, Some, None, ◌∙◌, sym, ap, List}
+use Rattle.std.proofs.Common.{◌≡◌, rules, Some, None, ◌∙◌, sym, ap}
 use Rattle.std.specs.BTreeMap.{get_by_text}
 use Rattle.program.specs.ByPredicate.{ByName}
 use Rattle.std.proofs.lemmas.Map.Text.{btree_map_updates_text}

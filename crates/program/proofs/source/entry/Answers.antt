@@ -1,5 +1,5 @@
 use Rattle.std.proofs.Common.{sym, ◌∙◌, arith}
-use Rattle.program.proofs.SourceLemmas.{rule_below, no_head, no_body, the_clause, is_for_own}
+use Rattle.program.proofs.SourceLemmas.{rule_below, no_head, no_body, the_clause}
 use Rattle.program.proofs.source.entry.Goals as goal
 
 pub returns-in_default : goal.returns-in_default

@@ -1,6 +1,5 @@
-use Rattle.std.proofs.Common.{◌≡◌, true, length, ap, sym, ◌∙◌, arith}
+use Rattle.std.proofs.Common.{length, ap, sym, ◌∙◌, arith}
 use Rattle.program.specs.Symbols.{is_neck}
-use Rattle.term_core.specs.Parts.{symbol_of}
 use Rattle.program.proofs.SourceLemmas.{IsNeck, neck_of, item_of_directive, item_of_rule, item_of_fact, one_taken, two_taken}
 use Rattle.program.proofs.source.item_in.Goals as goal
 
