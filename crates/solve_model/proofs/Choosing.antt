@@ -1,6 +1,7 @@
 -- Alternatives that are run one after another: a predicate's clauses, and the results of a primitive.
 use Rattle.std.proofs.Common.{◌≡◌, ℕ, ◌+◌, Bool, true, List, [], ◌∷◌, Option, Some, None, ap, refl, sym, ◌∙◌}
 use Rattle.term_core.specs.Tree.{Tree}
+use Rattle.term_core.specs.Substitution.{followed_by}
 use Rattle.term_core.specs.Unifier.{mgu}
 use Rattle.builtin_table.specs.Primitives.{Offer}
 use Rattle.program.specs.Clauses.{Clause, clauses_of}
@@ -38,7 +39,7 @@ module _ (w : World) (u : Used) (fs : List Frame) (c : Choice) (cs : List Clause
       ap (λ (ds : List Clause). in_order (runs w) (alternatives ds n c.goal (items_of c.items.items) (place_of c.place) c.more) c.more v) e
 
   abbrev branch_at : Match → Branch
-  branch_at m = body_branch (clause_of m.clause.now) (items_of c.items.items) (place_of c.place) c.more m.subst
+  branch_at m = body_branch (clause_of m.clause.now) (items_of c.items.items) (place_of c.place) c.more (followed_by c.place.subst m.found)
 
   pub chosen_none : ((is : List Item) (o : Bool) → alternatives cs c.from c.goal is (place_of c.place) o ≡ []) → resumed w fs (ends Failed u) ≡ resumed w fs (chosen w c u)
   chosen_none h =

@@ -1,6 +1,7 @@
 -- What the state of a search stands for.
 use Rattle.std.specs.Prelude.{◌≡◌, ℕ, ◌+◌, Bool, List, [], ◌∷◌, ◌++◌, map, ◌<◌, ◌^◌, drop, reverse, Option, Some, None}
 use Rattle.term_core.specs.Tree.{Tree}
+use Rattle.term_core.specs.Substitution.{followed_by}
 use Rattle.builtin_table.specs.Primitives.{Offer}
 use Rattle.program.specs.Clauses.{Clause, clauses_of}
 use Rattle.program.specs.Kept.{clause_of}
@@ -64,7 +65,7 @@ chosen w c u =
 
 -- the alternative of a result that unifies
 abbrev pub found_branch : Found → List run.Item → run.Place → run.Branch
-found_branch f is p = record { items = is; place = run.at_subst f.subst f.next p }
+found_branch f is p = record { items = is; place = run.at_subst (followed_by p.subst f.bindings) f.next p }
 
 -- a result, and then those that are left
 abbrev pub taken_results : run.World → Found → Results → run.Used → run.Ran
@@ -105,7 +106,7 @@ Leaves w old new n u r = resumed w new.frames.items (run_of w n u) ≡ resumed w
 pub record IsMatch (cs : List Clause) (goal : Tree) (p : run.Place) (from : ℕ) (m : Match) : Type 0 where
   pub next_fits : m.at + 1 < 2 ^ 64
   pub same : (is : List run.Item) (more : Bool) → alternatives cs from goal is p more ≡ alternatives cs m.at goal is p more
-  pub first : (is : List run.Item) (more : Bool) → alternatives cs m.at goal is p more ≡ run.body_branch (clause_of m.clause.now) is p more m.subst ∷ alternatives cs (m.at + 1) goal is p more
+  pub first : (is : List run.Item) (more : Bool) → alternatives cs m.at goal is p more ≡ run.body_branch (clause_of m.clause.now) is p more (followed_by p.subst m.found) ∷ alternatives cs (m.at + 1) goal is p more
 
 -- the first alternative from a place on, or that there is none
 abbrev pub FirstMatch : List Clause → Tree → run.Place → ℕ → Option Match → Type 0

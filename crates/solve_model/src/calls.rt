@@ -2,26 +2,27 @@
 ghost use Rattle.std.specs.Prelude.{◌≡◌, ℕ, ◌∷◌, List, IfOk};
 ghost use Rattle.term_core.specs.Tree.{Tree};
 ghost use Rattle.term_core.specs.Parts.{arguments_of};
-ghost use Rattle.term_core.specs.Substitution.{apply};
+ghost use Rattle.term_core.specs.Substitution.{apply, followed_by};
 ghost use Rattle.builtin_table.specs.Primitives.{primitive};
 ghost use Rattle.program.specs.Clauses.{clauses_of};
 ghost use Rattle.program.specs.Kept.{clause_of};
 ghost use Rattle.solve_model.specs.Run.{World, Used, body_branch as body_branch_of, called as called_run, if_ready, in_order, locally as locally_run, offered, performed, throws as throws_run};
 ghost use Rattle.solve_model.specs.Rows.{indicator_of, ready_as};
-ghost use Rattle.solve_model.specs.Search.{place_of, items_of, branch_of, chosen, runs, run_of, taken_results, Leaves};
+ghost use Rattle.solve_model.specs.Search.{place_of, items_of, branch_of, chosen, found_branch as found_branch_of, runs, run_of, taken_results, Leaves};
 ghost use Rattle.solve_model.specs.Trace.{world_of};
 
 use crate::frames::push;
 use crate::goals::indicator;
-use crate::items::{catcher, copied_items, deeper, put_first, with_goal};
-use crate::matching::next_match;
+use crate::items::{catcher, copied_items, copied_place, deeper, extended, put_first, with_goal};
+use crate::matching::{Match, next_match};
 use crate::ready::{Ready, unknown_predicate};
 use crate::results::{Found, Results, next_result};
 use crate::search::{Branch, Choice, End, Frame, Goal, Item, Now, Place, Scope, Stack};
+use crate::work::Work;
 use prims_tree::{Offers, Outcome};
-use program::{Clause, Program};
+use program::Program;
 use std::alloc::Global;
-use term_core::{Memory, Pi, Subst, Term};
+use term_core::{Memory, Pi, Term};
 
 // A ball is thrown before these items: a copy of it.
 pub(crate) fn throw(alloc: Global, ball: &Term, items: &[Item]) -> Result<Now, Memory>
@@ -71,33 +72,36 @@ pub(crate) fn call_ready(
     }
 }
 
-// The clause's body before the items, under the substitution that its head gave.
+// The body of a clause whose head unifies, before the items.
 fn body_branch(
     alloc: Global,
-    clause: &Clause,
+    entered: Match<'_>,
     items: Vec<Item>,
-    place: &Place,
+    place: Place,
     more: bool,
-    subst: Subst,
+    work: &mut Work,
 ) -> Result<Branch, Memory>
-    ensures { IfOk result (λ b. branch_of b ≡ body_branch_of (clause_of clause.now) (items_of items.items) (place_of place.now) more subst) }
+    ensures { IfOk result (λ b. branch_of b ≡ body_branch_of (clause_of entered.clause.now) (items_of items.items) (place_of place) more (followed_by place.subst entered.found)) }
 {
-    if place.next > u64::MAX - clause.vars || place.level == u64::MAX {
+    let Match {
+        clause,
+        at: _,
+        found,
+    } = entered;
+    let Place { subst, next, level } = place;
+    if next > u64::MAX - clause.vars || level == u64::MAX {
         return Err(Memory);
     }
     let body = Goal {
-        term: clause.body.rename(alloc, place.next)?,
-        scope: Scope {
-            level: place.level,
-            more,
-        },
+        term: clause.body.rename(alloc, next)?,
+        scope: Scope { level, more },
     };
     let mut items = items;
     put_first(&mut items, Item::Goal(body))?;
     let place = Place {
-        subst,
-        next: place.next + clause.vars,
-        level: place.level + 1,
+        subst: extended(alloc, subst, found, work)?,
+        next: next + clause.vars,
+        level: level + 1,
     };
     Ok(Branch { items, place })
 }
@@ -117,7 +121,6 @@ pub(crate) fn choose(
     let Some(first) = next_match(alloc, clauses, &choice.goal, &choice.place, choice.from)? else {
         return Ok(Now::Ends(End::Failed));
     };
-    stack.work.spend_all(&first.subst)?;
     match next_match(alloc, clauses, &choice.goal, &choice.place, first.at + 1)? {
         None => {
             let Choice {
@@ -126,19 +129,14 @@ pub(crate) fn choose(
                 more,
                 ..
             } = choice;
-            let branch = body_branch(alloc, first.clause, items, &place, more, first.subst)?;
+            let branch = body_branch(alloc, first, items, place, more, &mut stack.work)?;
             Ok(Now::Runs(branch, more))
         }
         Some(second) => {
             let items = copied_items(alloc, &choice.items, &mut stack.work)?;
-            let branch = body_branch(
-                alloc,
-                first.clause,
-                items,
-                &choice.place,
-                choice.more,
-                first.subst,
-            )?;
+            let place = copied_place(alloc, &choice.place, &mut stack.work)?;
+            let more = choice.more;
+            let branch = body_branch(alloc, first, items, place, more, &mut stack.work)?;
             let others = Choice {
                 from: second.at,
                 ..choice
@@ -158,7 +156,6 @@ pub(crate) fn take_result(
 ) -> Result<Now, Memory>
     ensures { IfOk result (λ n. (w : World) (u : Used) → Leaves w stack.old stack.new n u (taken_results w found results u)) }
 {
-    stack.work.spend_all(&found.subst)?;
     let Results {
         mut offers,
         items,
@@ -167,12 +164,13 @@ pub(crate) fn take_result(
     } = results;
     match next_result(alloc, &mut offers, &place)? {
         None => {
-            let branch = found_branch(found, items, place.level);
+            let branch = found_branch(alloc, found, items, place, &mut stack.work)?;
             Ok(Now::Runs(branch, more))
         }
         Some(next) => {
             let copies = copied_items(alloc, &items, &mut stack.work)?;
-            let branch = found_branch(found, copies, place.level);
+            let copy = copied_place(alloc, &place, &mut stack.work)?;
+            let branch = found_branch(alloc, found, copies, copy, &mut stack.work)?;
             let others = Results {
                 offers,
                 items,
@@ -185,16 +183,27 @@ pub(crate) fn take_result(
     }
 }
 
-// What is left to do after a primitive, under the substitution of its result.
-fn found_branch(found: Found, items: Vec<Item>, level: u64) -> Branch
-    ensures items { result.items.items ≡ items.items }
-    ensures place { result.place ≡ record { subst = found.subst; next = found.next; level = level } }
+// What is left to do after a primitive, under the unifier of its result.
+fn found_branch(
+    alloc: Global,
+    found: Found,
+    items: Vec<Item>,
+    place: Place,
+    work: &mut Work,
+) -> Result<Branch, Memory>
+    ensures { IfOk result (λ b. branch_of b ≡ found_branch_of found (items_of items.items) (place_of place)) }
 {
-    let Found { subst, next } = found;
-    Branch {
+    let Found { bindings, next } = found;
+    let Place {
+        subst,
+        next: _,
+        level,
+    } = place;
+    let subst = extended(alloc, subst, bindings, work)?;
+    Ok(Branch {
         items,
         place: Place { subst, next, level },
-    }
+    })
 }
 
 // The results of a primitive are alternatives.

@@ -1,6 +1,6 @@
 // The calls of goals, catches and balls.
 ghost use Rattle.std.specs.Prelude.{◌≡◌, ◌+◌, [], ◌∷◌, map, option_map, IfOk, IfSome};
-ghost use Rattle.term_core.specs.Substitution.{apply};
+ghost use Rattle.term_core.specs.Substitution.{apply, followed_by};
 ghost use Rattle.term_core.specs.Unifier.{mgu};
 ghost use Rattle.term_core.specs.Variables.{first_free, renamed};
 ghost use Rattle.solve_model.specs.Goals.{ready, with_arguments as with_arguments_tree};
@@ -9,13 +9,13 @@ ghost use Rattle.solve_model.specs.Search.{place_of, items_of, recovers, runs, L
 
 use crate::calls::{call_ready, throw};
 use crate::frames::push;
-use crate::items::{catcher as catcher_of, copied_branch, deeper, put_first, with_goal};
+use crate::items::{catcher as catcher_of, copied_branch, deeper, extended, put_first, with_goal};
 use crate::ready::{Ready, make_ready, unbound_goal, with_arguments};
 use crate::results::Found;
 use crate::search::{Branch, Catcher, End, Frame, Item, Now, Place, Scope, Stack};
 use crate::work::Work;
 use std::alloc::Global;
-use term_core::{Memory, Node, Subst, Term, unify};
+use term_core::{Memory, Node, Subst, Term, new_bindings};
 
 // call/1 to call/8: the goal with these arguments added is run, and a cut in it is local.
 pub(crate) fn call_with(
@@ -151,16 +151,17 @@ pub(crate) fn recover(
         let level = catcher_of(&items);
         return Ok(Now::Ends(End::Thrown(ball, level)));
     };
-    stack.work.spend_all(&found.subst)?;
-    let recovery = recovery.apply(alloc, &found.subst)?;
+    let Found { bindings, next } = found;
+    let Place {
+        subst,
+        next: _,
+        level,
+    } = place;
+    let subst = extended(alloc, subst, bindings, &mut stack.work)?;
+    let recovery = recovery.apply(alloc, &subst)?;
     stack.work.spend(&recovery)?;
     let ready = make_ready(alloc, recovery)?;
-    let Found { subst, next } = found;
-    let place = Place {
-        subst,
-        next,
-        level: place.level,
-    };
+    let place = Place { subst, next, level };
     let now = call_ready(alloc, ready, Branch { items, place }, more, stack)?;
     Ok(now)
 }
@@ -172,7 +173,7 @@ fn caught_by(
     catching: Term,
     place: &Place,
 ) -> Result<Option<Found>, Memory>
-    ensures subst { IfOk result (λ r. option_map (λ f. f.subst) r ≡ mgu ((renamed place.now.next ball.now, catching) ∷ []) place.now.subst) }
+    ensures subst { IfOk result (λ r. option_map (λ f. followed_by place.now.subst f.bindings) r ≡ mgu ((renamed place.now.next ball.now, catching) ∷ []) place.now.subst) }
     ensures next { IfOk result (λ r. IfSome r (λ f. f.next ≡ place.now.next + first_free ball.now)) }
 {
     let fresh = ball.first_free()?;
@@ -180,11 +181,11 @@ fn caught_by(
         return Err(Memory);
     }
     let pairs = vec![in alloc; (ball.rename(alloc, place.next)?, catching)]?;
-    let Some(subst) = unify(alloc, &pairs, &place.subst)? else {
-        return Ok(None)
+    let Some(bindings) = new_bindings(alloc, &pairs, &place.subst)? else {
+        return Ok(None);
     };
     Ok(Some(Found {
-        subst,
+        bindings,
         next: place.next + fresh,
     }))
 }

@@ -1,6 +1,6 @@
 // Control constructs: cuts, choices and conditions.
 ghost use Rattle.std.specs.Prelude.{◌≡◌, suc, true, [], ◌∷◌, IfOk, Some};
-ghost use Rattle.term_core.specs.Substitution.{apply};
+ghost use Rattle.term_core.specs.Substitution.{apply, followed_by};
 ghost use Rattle.term_core.specs.Unifier.{mgu};
 ghost use Rattle.solve_model.specs.Goals.{ready};
 ghost use Rattle.solve_model.specs.Run.{World, Used, Goal as GoalItem, Commit as CommitItem, after, branched, cut_to, deeper as deeper_place, differs, either_of, if_ready};
@@ -8,11 +8,13 @@ ghost use Rattle.solve_model.specs.Search.{place_of, items_of, runs, Leaves};
 
 use crate::calls::throw;
 use crate::frames::{cut_frames, push};
-use crate::items::{copied_branch, copied_items, deeper, put_first, with_goal};
+use crate::items::{
+    copied_branch, copied_items, copied_place, deeper, extended, put_first, with_goal,
+};
 use crate::ready::{Ready, make_ready};
 use crate::search::{Branch, Context, Frame, Item, Now, Place, Scope, Stack};
 use std::alloc::Global;
-use term_core::{Memory, Subst, Term, unify};
+use term_core::{Memory, Subst, Term, new_bindings};
 
 // A cut: the alternatives above its level are dropped.
 pub(crate) fn cut(scope: Scope, rest: Branch, stack: &mut Stack) -> Result<Now, Memory>
@@ -117,37 +119,39 @@ pub(crate) fn differ(
         Leaves w stack.old stack.new n u (differs (runs w) (mgu ((first, second) ∷ []) context.rest.place.subst) context.scope.level context.scope.more (items_of context.rest.items.items) (place_of context.rest.place) context.more u)) }
 {
     let pairs = vec![in alloc; (first, second)]?;
-    match unify(alloc, &pairs, &context.rest.place.subst)? {
+    match new_bindings(alloc, &pairs, &context.rest.place.subst)? {
         None => {
             let Context { scope, rest, more } = context;
             let branch = with_goal(rest, Term::atom(alloc, "true")?, scope)?;
             Ok(Now::Runs(branch, more))
         }
-        Some(subst) => {
-            let now = fail_later(alloc, subst, context, stack)?;
+        Some(found) => {
+            let now = fail_later(alloc, found, context, stack)?;
             Ok(now)
         }
     }
 }
 
-// A condition that has succeeded with this substitution, and then fails; otherwise it succeeds.
+// A condition that has succeeded with this unifier, and then fails; otherwise it succeeds.
 fn fail_later(
     alloc: Global,
-    subst: Subst,
+    found: Subst,
     context: Context,
     stack: &mut Stack,
 ) -> Result<Now, Memory>
     ensures { IfOk result (λ n. (w : World) (u : Used) →
-        Leaves w stack.old stack.new n u (differs (runs w) (Some subst) context.scope.level context.scope.more (items_of context.rest.items.items) (place_of context.rest.place) context.more u)) }
+        Leaves w stack.old stack.new n u (differs (runs w) (Some (followed_by context.rest.place.subst found)) context.scope.level context.scope.more (items_of context.rest.items.items) (place_of context.rest.place) context.more u)) }
 {
     let Context { scope, rest, more } = context;
     let level = rest.place.level;
-    let place = Place {
-        subst,
-        next: rest.place.next,
-        level,
-    };
     let items = copied_items(alloc, &rest.items, &mut stack.work)?;
+    let Place {
+        subst,
+        next,
+        level: _,
+    } = copied_place(alloc, &rest.place, &mut stack.work)?;
+    let subst = extended(alloc, subst, found, &mut stack.work)?;
+    let place = Place { subst, next, level };
     let Branch { mut items, place } = with_goal(
         Branch { items, place },
         Term::atom(alloc, "fail")?,

@@ -1,5 +1,6 @@
 // Lists of items, whose first item is last, and copies of what alternatives share.
 ghost use Rattle.std.specs.Prelude.{◌≡◌, ◌∷◌, OnOk, IfOk};
+ghost use Rattle.term_core.specs.Substitution.{followed_by};
 ghost use Rattle.solve_model.specs.Run.{Goal as GoalItem, catcher as catcher_of, deeper as deeper_place};
 ghost use Rattle.solve_model.specs.Search.{items_of, item_of, place_of};
 
@@ -100,6 +101,20 @@ pub(crate) fn copied_place(alloc: Global, place: &Place, work: &mut Work) -> Res
         next: place.next,
         level: place.level,
     })
+}
+
+// The substitution followed by what a unifier found; what that leaves as it is isn't written again.
+pub(crate) fn extended(
+    alloc: Global,
+    subst: Subst,
+    found: Subst,
+    work: &mut Work,
+) -> Result<Subst, Memory>
+    ensures { IfOk result (λ s. s ≡ followed_by subst found) }
+{
+    work.spend_changed(&subst, &found)?;
+    let subst = subst.then(alloc, found)?;
+    Ok(subst)
 }
 
 pub(crate) fn copied_branch(

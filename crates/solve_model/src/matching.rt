@@ -1,5 +1,7 @@
 // Which clauses' heads unify with a goal.
 ghost use Rattle.std.specs.Prelude.{◌≡◌, ℕ, [], ◌∷◌, map, IfOk, IsTrue};
+ghost use Rattle.std.specs.Option.{option_map};
+ghost use Rattle.term_core.specs.Substitution.{followed_by};
 ghost use Rattle.term_core.specs.Unifier.{mgu};
 ghost use Rattle.term_core.specs.Variables.{renamed};
 ghost use Rattle.program.specs.Kept.{clause_of};
@@ -10,14 +12,14 @@ ghost use Rattle.solve_model.specs.Search.{place_of, FirstMatch};
 use crate::search::Place;
 use program::Clause;
 use std::alloc::Global;
-use term_core::{Memory, Node, Subst, Term, unify};
+use term_core::{Memory, Node, Subst, Term, new_bindings};
 
-// A clause with its place among the predicate's clauses, and the substitution that unifies its renamed head with the goal.
+// A clause with its place among the predicate's clauses, and what the substitution is to be followed by, so that it unifies the renamed head with the goal.
 #[derive(Drop)]
 pub(crate) struct Match<'a> {
     pub(crate) clause: &'a Clause,
     pub(crate) at: usize,
-    pub(crate) subst: Subst,
+    pub(crate) found: Subst,
 }
 
 // The first of a predicate's clauses, from a place on, whose renamed head unifies with the goal.
@@ -32,8 +34,8 @@ pub(crate) fn next_match<'a>(
 {
     for at in from..clauses.len() {
         let clause = &clauses[at];
-        if let Some(subst) = unify_head(alloc, goal, clause, place)? {
-            return Ok(Some(Match { clause, at, subst }));
+        if let Some(found) = unify_head(alloc, goal, clause, place)? {
+            return Ok(Some(Match { clause, at, found }));
         }
     }
     Ok(None)
@@ -46,7 +48,7 @@ fn unify_head(
     clause: &Clause,
     place: &Place,
 ) -> Result<Option<Subst>, Memory>
-    ensures { IfOk result (λ s. s ≡ mgu ((goal.now, renamed place.now.next clause.now.head) ∷ []) place.now.subst) }
+    ensures { IfOk result (λ s. option_map (followed_by place.now.subst) s ≡ mgu ((goal.now, renamed place.now.next clause.now.head) ∷ []) place.now.subst) }
 {
     if first_arguments_clash(goal, &clause.head) {
         return Ok(None);
@@ -56,7 +58,7 @@ fn unify_head(
     }
     let head = clause.head.rename(alloc, place.next)?;
     let pairs = vec![in alloc; (goal.copied(alloc)?, head)]?;
-    unify(alloc, &pairs, &place.subst)
+    new_bindings(alloc, &pairs, &place.subst)
 }
 
 // Whether the first arguments differ, whatever their variables stand for: then nothing is copied.

@@ -5,12 +5,12 @@ ghost use Rattle.solve_model.specs.Search.{place_of, NextResult};
 use crate::search::{Item, Place};
 use prims_tree::Offers;
 use std::alloc::Global;
-use term_core::{Memory, Subst, unify};
+use term_core::{Memory, Subst, new_bindings};
 
-// A result that unifies: the substitution that it gives, and the next variable after it.
+// A unifier: what the substitution is to be followed by, and the next variable after it.
 #[derive(Drop)]
 pub(crate) struct Found {
-    pub(crate) subst: Subst,
+    pub(crate) bindings: Subst,
     pub(crate) next: u64,
 }
 
@@ -33,8 +33,8 @@ pub(crate) fn next_result(
 {
     while let Some(offer) = offers.next(alloc)? {
         let next = place.next.checked_add(offer.fresh).ok_or(Memory)?;
-        if let Some(subst) = unify(alloc, offer.pairs.as_slice(), &place.subst)? {
-            return Ok(Some(Found { subst, next }));
+        if let Some(bindings) = new_bindings(alloc, offer.pairs.as_slice(), &place.subst)? {
+            return Ok(Some(Found { bindings, next }));
         }
     }
     Ok(None)

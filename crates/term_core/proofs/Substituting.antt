@@ -33,7 +33,7 @@ module _ (g h : ℕ → Tree) where
     all_substituted-substituted no_trees = refl
     all_substituted-substituted (tree t ts) = rw (substituted-substituted t, all_substituted-substituted ts)
 
-either_way : (m n : ℕ) → (n == m) ≡ (m == n)
+pub either_way : (m n : ℕ) → (n == m) ≡ (m == n)
 either_way m n = grind (arith, nat_tests)
 
 value_of-only : (m : ℕ) (u : Tree) (n : ℕ) → value_of ((m, u) ∷ []) n ≡ only m u n

@@ -2,7 +2,8 @@ ghost use Rattle.std.specs.Prelude.{◌≡◌, ◌<◌, [], length, true, IfOk, 
 ghost use Rattle.term_core.specs.Flat.{parse};
 ghost use Rattle.term_core.specs.Preorder.{AreTermNodes};
 ghost use Rattle.term_core.specs.Sides.{demand_of, pending, Binds};
-ghost use Rattle.term_core.specs.Substitution.{value_of, pairs_substituted};
+ghost use Rattle.std.specs.Option.{option_map};
+ghost use Rattle.term_core.specs.Substitution.{followed_by, value_of, pairs_substituted};
 ghost use Rattle.term_core.specs.Unification.{contains_variable};
 ghost use Rattle.term_core.specs.Unifier.{mgu, solution};
 
@@ -22,11 +23,24 @@ use std::alloc::Global;
 pub fn unify(alloc: Global, pairs: &[(Term, Term)], s: &Subst) -> Result<Option<Subst>, Memory>
     ensures { IfOk result (λ r. r ≡ mgu pairs.now s.now) }
 {
-    let (left, right) = sides(alloc, pairs, s)?;
-    match solved(alloc, left, right)? {
+    match new_bindings(alloc, pairs, s)? {
         Some(found) => Ok(Some(s.followed_by(alloc, &found)?)),
         None => Ok(None),
     }
+}
+
+/// The new bindings: what `s` is to be followed by, so that it is the most general unifier of the pairs, as [`unify`] gives it; or `None` where there is
+/// none. Nothing of `s` is copied.
+pub fn new_bindings(
+    alloc: Global,
+    pairs: &[(Term, Term)],
+    s: &Subst,
+) -> Result<Option<Subst>, Memory>
+    ensures { IfOk result (λ r. option_map (followed_by s.now) r ≡ mgu pairs.now s.now) }
+{
+    let (left, right) = sides(alloc, pairs, s)?;
+    let found = solved(alloc, left, right)?;
+    Ok(found)
 }
 
 // The nodes of the left terms and of the right terms under `s`.

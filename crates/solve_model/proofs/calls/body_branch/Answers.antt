@@ -5,4 +5,4 @@ use Rattle.solve_model.proofs.calls.body_branch.Goals as goal
 
 pub rename-requires : goal.rename-requires
 rename-requires c =
-    omega (arith, greatest_le (occurrences c.args.clause.now.body), c.args.clause.now.body_below)
+    omega (arith, greatest_le (occurrences c.args.entered.clause.now.body), c.args.entered.clause.now.body_below)
