@@ -1,0 +1,4 @@
+pub mod Pending
+pub mod Seen
+pub mod Shown
+pub mod Verdict
