@@ -1,2 +1,3 @@
+pub mod Collecting
 pub mod Reading
 pub mod Walking

@@ -1,5 +1,6 @@
 ghost use Rattle.std.specs.Prelude.{◌≡◌, IfOk, OnOk, IfErr, None};
 ghost use Rattle.builtin_table.specs.Table.{standard};
+ghost use Rattle.sandbox_walk.specs.Passes.{Passes};
 ghost use Rattle.sandbox_walk.specs.Verdict.{Verdict, Refuses};
 
 use crate::reach::reached;
@@ -12,28 +13,30 @@ use std::alloc::Global;
 use std::sync::Arc;
 use term_core::{Memory, Term};
 
-/// A goal that may be asked of a program: it reaches no predicate outside, and a body stands at each goal position.
+/// A goal that may be asked of a program: no predicate outside is reached, and a body stands at each goal position.
 #[derive(Drop)]
 pub struct Passed {
-    program: Arc<Program>,
-    goal: Term,
-}
-
-impl Passed {
     /// The program.
-    pub fn program(&self) -> &Arc<Program> {
-        &self.program
-    }
-
+    pub program: Arc<Program>,
     /// The goal.
-    pub fn goal(&self) -> &Term {
-        &self.goal
-    }
+    pub goal: Term,
+    pub ghost passes: { Passes standard program.value goal },
 }
 
-/// Whether the goal may be asked of the program.
+/// Whether the goal may be asked of the program, by the built-in predicates of this Prolog. The first of these that fits is
+/// answered:
+/// - `Sandboxed`: a predicate outside is reached; the least one by its name, in bytes, and then by its number of arguments;
+/// - `Uninstantiated`: a variable stands at a goal position;
+/// - `NotCallable`: a term at a goal position can't be a body. It is the first such term: by the literal that holds it, the goal
+///   itself before all literals, and then from left to right in the goal and in the clauses, in the program's order.
+///
+/// Literals stand in the goal and in the clauses of each reached predicate that the client defines or that isn't built in.
+/// They are found by opening `,`, `;`, `->` and each goal position that the table of built-in predicates declares; a closure is
+/// extended by as many fresh variables as it lacks arguments, and a leading `V^` is taken off where that is declared.
 pub fn check(alloc: Global, p: &Arc<Program>, goal: &Term) -> Result<Passed, Unsafe>
     ensures passed { OnOk result (Verdict standard p.now.value goal.now None) }
+    ensures program { IfOk result (λ q. q.program.value ≡ p.now.value) }
+    ensures goal { IfOk result (λ q. q.goal ≡ goal.now) }
     ensures refused { IfErr result (Refuses standard p.now.value goal.now) }
 {
     let table = Table::standard(alloc)?;
@@ -51,7 +54,11 @@ pub fn check(alloc: Global, p: &Arc<Program>, goal: &Term) -> Result<Passed, Uns
     Ok(keep(alloc, p, goal)?)
 }
 
-fn keep(alloc: Global, p: &Arc<Program>, goal: &Term) -> Result<Passed, Memory> {
+fn keep(alloc: Global, p: &Arc<Program>, goal: &Term) -> Result<Passed, Memory>
+    requires { Passes standard p.now.value goal.now }
+    ensures program { IfOk result (λ q. q.program.value ≡ p.now.value) }
+    ensures goal { IfOk result (λ q. q.goal ≡ goal.now) }
+{
     Ok(Passed {
         program: p.clone()?,
         goal: goal.copied(alloc)?,
