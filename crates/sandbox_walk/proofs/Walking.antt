@@ -1,8 +1,9 @@
 -- The walk over the predicates: when none waits, those that were seen are just those that are reached.
-use Rattle.std.proofs.Common.{◌≡◌, ℕ, Bool, true, false, ◌&&◌, ◌||◌, ◌==◌, List, [], ◌∷◌, ◌++◌, take, get_or, IsTrue, bytes_eq, refl, ap, sym, subst, ◌∙◌, ◌⊎◌, inl, inr, arith}
+use Rattle.std.proofs.Common.{◌≡◌, ℕ, Bool, true, false, ◌&&◌, ◌||◌, ◌==◌, List, [], ◌∷◌, ◌++◌, take, get_or, length, ◌+◌, ◌<◌, IsTrue, bytes_eq, refl, ap, sym, subst, ◌∙◌, ◌⊎◌, inl, inr, arith}
 use Rattle.std.specs.List.{list_any}
 use Rattle.std.specs.Cmp.Lexicographic.{bytes_decides}
 use Rattle.std.proofs.lemmas.Bool.{and_parts, eqb-true}
+use Rattle.std.proofs.lemmas.List.{take_more}
 use Rattle.term_core.specs.declared.pi.Pi.{Pi}
 use Rattle.term_core.specs.Tree.{Tree}
 use Rattle.builtin_table.specs.Table.{Rows}
@@ -10,10 +11,14 @@ use Rattle.program.specs.Clauses.{Clause, same_indicator}
 use Rattle.sandbox_walk.specs.declared.found.Found.{Found}
 use Rattle.sandbox_walk.specs.declared.found.Found.TheVariants.{Literal, Place}
 use Rattle.sandbox_walk.specs.declared.reach.Walk.{Walk}
+use Rattle.sandbox_walk.specs.Shown.{indicator}
 use Rattle.sandbox_walk.specs.Verdict.{Reach, by_goal, by_clause, TellsReach, enters, in_goal, in_predicate, is_literal, has_literal}
 use Rattle.sandbox_walk.specs.Seen.{has, among, IsWalking, HasMet}
 
 -- ---- tests
+
+differ : true ≡ false → ⊥
+differ e = cc
 
 or_left : (a b : Bool) → IsTrue a → IsTrue (a || b)
 or_left true b h = refl
@@ -42,9 +47,7 @@ any-append p (x ∷ xs) ys = ap (λ (b : Bool). p x || b) (any-append p xs ys) �
 pub same : (i j : Pi) → IsTrue (same_indicator i j) → i ≡ j
 same i j h =
     let parts = and_parts (bytes_eq i.name j.name) (i.arity == j.arity) h in
-    let n : i.name ≡ j.name = (bytes_decides i.name j.name).0 parts.0 in
-    let a : i.arity ≡ j.arity = eqb-true i.arity j.arity parts.1 in
-    cc
+    ap (λ (f : List ℕ). indicator f i.arity) ((bytes_decides i.name j.name).0 parts.0) ∙ ap (indicator j.name) (eqb-true i.arity j.arity parts.1)
 
 pub itself : (i : Pi) → IsTrue (same_indicator i i)
 itself i = rw ((bytes_decides i.name i.name).1 refl, number_same i.arity) refl
@@ -83,6 +86,12 @@ met_both fs gs old mid new m n = record {
     from_new i (inl h) = elim (m.new_wait i h) [ inl a ↦ inl a | inr b ↦ inr (n.kept i b) ]
     from_new i (inr h) = inr h
 
+-- one thing more of a list
+pub met_more : (fs : List Found) (i : ℕ) (f : Found) (old mid new : Walk) → i < length fs → f ≡ get_or fs i f → HasMet (take i fs) old mid → HasMet (f ∷ []) mid new → HasMet (take (i + 1) fs) old new
+met_more fs i f old mid new inside is m n =
+    subst (λ (gs : List Found). HasMet gs old new) (sym (take_more fs i f inside ∙ ap (λ (x : Found). take i fs ++ x ∷ []) (sym is)))
+      (met_both (take i fs) (f ∷ []) old mid new m n)
+
 -- a place is no literal
 pub met_place : (f : Found) (w : Walk) → ((i : Pi) → is_literal i f ≡ false) → HasMet (f ∷ []) w w
 met_place f w no = record {
@@ -105,20 +114,17 @@ met_known i w known = record {
     by j true e = let q : j ≡ i = same j i e in rw (q, known) refl
     by j false e = rw e (sym (or_false (has w.seen j)))
 
+one_way : (i j : Pi) → IsTrue (same_indicator i j) → IsTrue (same_indicator j i)
+one_way i j h = subst (λ (x : Pi). IsTrue (same_indicator x i)) (same i j h) (itself i)
+
 same_back : (i j : Pi) → same_indicator i j ≡ same_indicator j i
 same_back i j = by (same_indicator i j) (same_indicator j i) refl refl
   where
     by : (a b : Bool) → same_indicator i j ≡ a → same_indicator j i ≡ b → same_indicator i j ≡ same_indicator j i
     by true true e g = e ∙ sym g
     by false false e g = e ∙ sym g
-    by true false e g = let q : i ≡ j = same i j e in absurd (differ (sym (subst (λ (x : Pi). IsTrue (same_indicator x i)) q (itself i)) ∙ g))
-      where
-        differ : true ≡ false → ⊥
-        differ h = cc
-    by false true e g = let q : j ≡ i = same j i g in absurd (differ (sym (subst (λ (x : Pi). IsTrue (same_indicator x j)) q (itself j)) ∙ e))
-      where
-        differ : true ≡ false → ⊥
-        differ h = cc
+    by true false e g = absurd (differ (sym (one_way i j e) ∙ g))
+    by false true e g = absurd (differ (sym (one_way j i g) ∙ e))
 
 -- a literal that is new waits
 pub met_new : (i : Pi) (old new : Walk) → ((j : Pi) → has new.seen j ≡ (same_indicator i j || has old.seen j)) → new.waiting.items ≡ old.waiting.items ++ i ∷ [] → HasMet (Literal i ∷ []) old new
@@ -163,15 +169,9 @@ module _ (rows : Rows) (p : List Clause) (g : Tree) where
 
       no_way : (i : Pi) → IsTrue (has old.seen i) → ⊥
       no_way i h = differ (sym h ∙ none i)
-        where
-          differ : true ≡ false → ⊥
-          differ e = cc
 
       first : (i : Pi) → IsTrue (among i old.waiting.items) ⊎ IsTrue (has new.seen i) → IsTrue (has new.seen i)
       first i (inl h) = absurd (differ (sym (subst (λ (is : List Pi). IsTrue (among i is)) empty h)))
-        where
-          differ : true ≡ false → ⊥
-          differ e = cc
       first i (inr h) = h
 
       waits : (h : Pi) → IsTrue (has old.seen h) ⊎ IsTrue (among h new.waiting.items) → IsTrue (among h new.waiting.items)
@@ -203,9 +203,6 @@ module _ (rows : Rows) (p : List Clause) (g : Tree) where
       closed = λ h j s e l. by h j e (k.closed h j (subst IsTrue (mid_has h) s) e l);
     }
       where
-        differ : true ≡ false → ⊥
-        differ e = cc
-
         by : (h j : Pi) → IsTrue (enters rows p h) → IsTrue (has old.seen j) ⊎ IsTrue (among h old.waiting.items) → IsTrue (has mid.seen j) ⊎ IsTrue (among h mid.waiting.items)
         by h j e (inl s) = inl (subst IsTrue (sym (mid_has j)) s)
         by h j e (inr w) = elim (waits_or_is h w) [
@@ -253,12 +250,9 @@ module _ (rows : Rows) (p : List Clause) (g : Tree) where
     seen_all i (by_goal j l) = k.goal j l
     seen_all i (by_clause h j r e l) = by (k.closed h j (seen_all h r) e l)
       where
-        differ : false ≡ true → ⊥
-        differ x = cc
-
         by : IsTrue (has w.seen j) ⊎ IsTrue (among h w.waiting.items) → IsTrue (has w.seen j)
         by (inl s) = s
-        by (inr a) = absurd (differ (subst (λ (is : List Pi). IsTrue (among h is)) none a))
+        by (inr a) = absurd (differ (sym (subst (λ (is : List Pi). IsTrue (among h is)) none a)))
 
     pub walking_ends : TellsReach rows p g (has w.seen)
     walking_ends = λ i. (k.reached i, seen_all i)

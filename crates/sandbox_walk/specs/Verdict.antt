@@ -92,11 +92,13 @@ lesser i None = i
 lesser i (Some j) = if indicator_less j i then j else i
 
 -- the least predicate outside, of these literals
+abbrev pub least_with : Rows → Found → Option Pi → Option Pi
+least_with rows (Literal i) least = if is_outside rows i then Some (lesser i least) else least
+least_with rows (Place h x) least = least
+
 abbrev pub least_outside : Rows → List Found → Option Pi
 least_outside rows [] = None
-least_outside rows (Literal i ∷ fs) =
-    if is_outside rows i then Some (lesser i (least_outside rows fs)) else least_outside rows fs
-least_outside rows (Place h x ∷ fs) = least_outside rows fs
+least_outside rows (f ∷ fs) = least_with rows f (least_outside rows fs)
 
 abbrev pub is_unbound : Found → Bool
 is_unbound (Place h Unbound) = true
@@ -113,12 +115,15 @@ earlier a None = a
 earlier a (Some b) = if holder_less b.0 a.0 then b else a
 
 -- the first goal position that is no body: by the literal that holds it, and then by its place among what is read
+abbrev pub closed_with : Found → Option Closed → Option Closed
+closed_with (Place h (Shut t)) first = Some (earlier (h, t) first)
+closed_with (Place h Opens) first = first
+closed_with (Place h Unbound) first = first
+closed_with (Literal i) first = first
+
 abbrev pub first_closed : List Found → Option Closed
 first_closed [] = None
-first_closed (Place h (Shut t) ∷ fs) = Some (earlier (h, t) (first_closed fs))
-first_closed (Place h Opens ∷ fs) = first_closed fs
-first_closed (Place h Unbound ∷ fs) = first_closed fs
-first_closed (Literal i ∷ fs) = first_closed fs
+first_closed (f ∷ fs) = closed_with f (first_closed fs)
 
 -- what is said of a goal that shows this in all: the first refusal that fits, or none
 abbrev pub refusal : Rows → List Found → Option Unsafe

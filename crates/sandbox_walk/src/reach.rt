@@ -1,5 +1,7 @@
 // Which predicates a goal reaches.
-ghost use Rattle.std.specs.Prelude.{◌≡◌, [], ◌∷◌, map, IfOk};
+ghost use Rattle.std.specs.Prelude.{◌≡◌, [], ◌∷◌, ◌++◌, map, IfOk};
+ghost use Rattle.term_core.specs.Tree.{Tree};
+ghost use Rattle.sandbox_walk.specs.declared.reach.Walk.{Walk as Walking};
 ghost use Rattle.sandbox_walk.specs.declared.found.Found.TheVariants.{Literal};
 ghost use Rattle.std.specs.List.{flat_map, list_any};
 ghost use Rattle.program.specs.Kept.{clause_of};
@@ -35,12 +37,28 @@ pub(crate) fn reached(
         let Some(pi) = walk.waiting.pop() else {
             return Ok(walk.seen);
         };
-        if enters(table, program, &pi) {
-            let found = in_clauses(alloc, table, program.clauses(&pi))?;
-            meet(alloc, &found, &mut walk)?;
-        }
+        enter(alloc, table, program, &pi, &mut walk)?;
     }
     Err(Memory)
+}
+
+// Takes in the literals of a predicate that waited.
+fn enter(
+    alloc: Global,
+    table: &Table,
+    program: &Program,
+    pi: &Pi,
+    walk: &mut Walk,
+) -> Result<(), Memory>
+    ensures { IfOk result (λ _. (g : Tree) (before : Walking) →
+        before.waiting.items ≡ walk.old.waiting.items ++ pi.now ∷ [] → before.seen ≡ walk.old.seen →
+        IsWalking table.now program.now g before → IsWalking table.now program.now g walk.new) }
+{
+    if !enters(table, program, pi) {
+        return Ok(());
+    }
+    let found = in_clauses(alloc, table, program.clauses(pi))?;
+    meet(alloc, &found, walk)
 }
 
 // Begins with the goal's own literals.
@@ -92,15 +110,21 @@ fn meet(alloc: Global, found: &[Found], walk: &mut Walk) -> Result<(), Memory>
     ensures { IfOk result (λ _. HasMet found.now walk.old walk.new) }
 {
     for item in found {
-        if let Found::Literal(pi) = item {
-            see(alloc, pi, walk)?;
-        }
+        see(alloc, item, walk)?;
     }
     Ok(())
 }
 
-// Takes in one literal.
-fn see(alloc: Global, pi: &Pi, walk: &mut Walk) -> Result<(), Memory>
+fn see(alloc: Global, item: &Found, walk: &mut Walk) -> Result<(), Memory>
+    ensures { IfOk result (λ _. HasMet (item.now ∷ []) walk.old walk.new) }
+{
+    match item {
+        Found::Place(_, _) => Ok(()),
+        Found::Literal(pi) => see_literal(alloc, pi, walk),
+    }
+}
+
+fn see_literal(alloc: Global, pi: &Pi, walk: &mut Walk) -> Result<(), Memory>
     ensures { IfOk result (λ _. HasMet (Literal pi.now ∷ []) walk.old walk.new) }
 {
     if has(&walk.seen, pi) {

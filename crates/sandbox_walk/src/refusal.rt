@@ -2,7 +2,7 @@
 ghost use Rattle.std.specs.Prelude.{◌≡◌};
 ghost use Rattle.std.specs.List.{list_any};
 ghost use Rattle.std.specs.Option.{option_map};
-ghost use Rattle.sandbox_walk.specs.Verdict.{holder_less as is_holder_less, indicator_less as is_less, is_outside as is_outside_predicate, is_unbound, least_outside as least_of, first_closed as first_of, lesser as lesser_of, earlier as earlier_of};
+ghost use Rattle.sandbox_walk.specs.Verdict.{holder_less as is_holder_less, indicator_less as is_less, is_outside as is_outside_predicate, is_unbound, least_outside as least_of, first_closed as first_of, lesser as lesser_of, earlier as earlier_of, least_with as least_with_of, closed_with as closed_with_of};
 
 use crate::found::{Found, Stands};
 use builtin_table::{Class, Table};
@@ -15,13 +15,25 @@ pub(crate) fn least_outside<'a>(table: &Table, found: &'a [Found]) -> Option<&'a
 {
     let mut least: Option<&Pi> = None;
     for i in 0..found.len() {
-        if let Found::Literal(pi) = &found[found.len() - 1 - i] {
+        let item = &found[found.len() - 1 - i];
+        least = least_with(table, item, least);
+    }
+    least
+}
+
+fn least_with<'a>(table: &Table, item: &'a Found, least: Option<&'a Pi>) -> Option<&'a Pi>
+    ensures { option_map (λ p. p.now) result ≡ least_with_of table.now item.now (option_map (λ p. p.now) least) }
+{
+    match item {
+        Found::Place(_, _) => least,
+        Found::Literal(pi) => {
             if is_outside(table, pi) {
-                least = Some(lesser(pi, least));
+                Some(lesser(pi, least))
+            } else {
+                least
             }
         }
     }
-    least
 }
 
 fn lesser<'a>(pi: &'a Pi, other: Option<&'a Pi>) -> &'a Pi
@@ -79,13 +91,21 @@ pub(crate) fn first_closed(found: &[Found]) -> Option<&Term>
 {
     let mut first: Option<Closed> = None;
     for i in 0..found.len() {
-        if let Found::Place(holder, Stands::Shut(term)) = &found[found.len() - 1 - i] {
-            first = Some(earlier((holder, term), first));
-        }
+        let item = &found[found.len() - 1 - i];
+        first = closed_with(item, first);
     }
     match first {
         Some((_, term)) => Some(term),
         None => None,
+    }
+}
+
+fn closed_with<'a>(item: &'a Found, first: Option<Closed<'a>>) -> Option<Closed<'a>>
+    ensures { option_map (λ c. (c.0.now, c.1.now)) result ≡ closed_with_of item.now (option_map (λ c. (c.0.now, c.1.now)) first) }
+{
+    match item {
+        Found::Place(holder, Stands::Shut(term)) => Some(earlier((holder, term), first)),
+        Found::Place(_, Stands::Opens | Stands::Unbound) | Found::Literal(_) => first,
     }
 }
 

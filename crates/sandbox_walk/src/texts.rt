@@ -1,6 +1,5 @@
 // All that is read of a goal and a program.
-ghost use Rattle.std.specs.Prelude.{◌≡◌, IfOk, ◌++◌, filter, map};
-ghost use Rattle.std.specs.List.{flat_map};
+ghost use Rattle.std.specs.Prelude.{◌≡◌, [], ◌++◌, if◌then◌else◌, IfOk};
 ghost use Rattle.program.specs.Kept.{clause_of};
 ghost use Rattle.program.specs.Clauses.{indicator_of};
 ghost use Rattle.sandbox_walk.specs.Verdict.{all_shown as all_shown_of, in_clause, reads as reads_clause};
@@ -28,12 +27,29 @@ pub(crate) fn all_shown(
     let mut all = shown(alloc, table, goal, Kind::Adds(0))?;
     let clauses = program.in_order(alloc)?;
     for clause in &clauses {
-        if reads(alloc, table, program, reached, clause)? {
-            let mut found = shown(alloc, table, &clause.body, Kind::Part)?;
-            all.append(&mut found)?;
-        }
+        read(alloc, table, program, reached, clause, &mut all)?;
     }
     Ok(all)
+}
+
+// Puts what a clause shows at the end, where it is read.
+fn read(
+    alloc: Global,
+    table: &Table,
+    program: &Program,
+    reached: &Seen,
+    clause: &Clause,
+    all: &mut Vec<Found>,
+) -> Result<(), Memory>
+    ensures { IfOk result (λ _.
+        let c = clause_of clause.now in
+        all.new.items ≡ all.old.items ++ (if reads_clause table.now program.now (has_predicate reached.now) c then in_clause table.now c else [])) }
+{
+    if reads(alloc, table, program, reached, clause)? {
+        let mut found = shown(alloc, table, &clause.body, Kind::Part)?;
+        all.append(&mut found)?;
+    }
+    Ok(())
 }
 
 // Whether the clause is of a reached predicate whose clauses are read.
