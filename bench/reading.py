@@ -32,15 +32,18 @@ def seconds(program, kind, text):
     return min(times), done.stdout.decode().strip()
 
 
-def listed(size, elements):
-    """A list of the first of these elements, of at most so many bytes."""
-    taken, length = [], 1
-    for element in elements:
-        length += len(element) + 1
-        if length > size:
+def first_of(size, pieces):
+    """The first of these pieces that take at most so many bytes, with one behind each."""
+    for piece in pieces:
+        size -= len(piece) + 1
+        if size < 0:
             break
-        taken.append(element)
-    return "[" + ",".join(taken) + "]"
+        yield piece
+
+
+def listed(size, elements):
+    """A list of at most so many bytes."""
+    return "[" + ",".join(first_of(size - 1, elements)) + "]"
 
 
 def many(element):
@@ -64,13 +67,7 @@ def declared(count):
 
 def clauses(size, forms):
     """Clauses of at most so many bytes."""
-    taken, length = [], 0
-    for form in forms:
-        length += len(form) + 1
-        if length > size:
-            break
-        taken.append(form)
-    return "\n".join(taken) + "\n"
+    return "\n".join(first_of(size, forms)) + "\n"
 
 
 SHAPES = {
