@@ -70,6 +70,8 @@ meta =
     ++ map (λ k. entry Meta ((1, k) ∷ []) "call" (suc k)) (1 ∷ 2 ∷ 3 ∷ 4 ∷ 5 ∷ 6 ∷ 7 ∷ [])
     ++ rows Meta ((1, 0) ∷ (3, 0) ∷ []) 3 ("catch" ∷ [])
     ++ rows Meta ((1, 0) ∷ (2, 0) ∷ []) 2 ("forall" ∷ [])
+    ++ rows Meta ((2, 0) ∷ []) 3 ("findall" ∷ [])
+    ++ rows Meta ((2, behind) ∷ []) 3 ("bagof" ∷ "setof" ∷ [])
 
 abbrev safe : Rows
 safe =
@@ -79,6 +81,28 @@ safe =
     ++ rows Safe [] 3 ("functor" ∷ "arg" ∷ [])
     ++ rows Safe [] 2 ("=.." ∷ "copy_term" ∷ "term_variables" ∷ [])
     ++ rows Safe [] 2 ("is" ∷ "=:=" ∷ "=\\=" ∷ "<" ∷ "=<" ∷ ">" ∷ ">=" ∷ [])
+    ++ rows Safe [] 2 ("atom_length" ∷ [])
+    ++ rows Safe [] 3 ("atom_concat" ∷ [])
+    ++ rows Safe [] 5 ("sub_atom" ∷ [])
+    ++ rows Safe [] 2 ("atom_chars" ∷ "atom_codes" ∷ "char_code" ∷ "number_chars" ∷ "number_codes" ∷ "atom_number" ∷ [])
+    ++ rows Safe [] 2 ("msort" ∷ "sort" ∷ "keysort" ∷ [])
+    ++ rows Safe [] 3 ("$skip_list" ∷ [])
+    ++ rows Safe [] 2 ("pengine_input" ∷ [])
+    ++ rows Safe [] 1 ("pengine_output" ∷ [])
+
+-- predicates of the library that run goals
+abbrev library : Rows
+library =
+    map (λ k. entry Library ((1, k) ∷ []) "maplist" (suc k)) (1 ∷ 2 ∷ 3 ∷ 4 ∷ [])
+    ++ rows Library ((1, 3) ∷ []) 4 ("foldl" ∷ [])
+    ++ rows Library ((1, 1) ∷ []) 3 ("include" ∷ "exclude" ∷ [])
+
+-- predicates that would reach outside of the run
+abbrev outside : Rows
+outside =
+    rows Outside [] 0 ("halt" ∷ [])
+    ++ rows Outside [] 1 ("halt" ∷ [])
+    ++ rows Outside [] 2 ("read_file" ∷ "pengine_rpc" ∷ ":" ∷ [])
 
 unfoldable pub standard : Rows
-standard = control ++ meta ++ safe
+standard = control ++ meta ++ safe ++ library ++ outside

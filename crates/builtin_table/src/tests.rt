@@ -3,7 +3,7 @@ use std::test::Fail;
 use term_core::{Name, Pi};
 
 // Predicates with their classes and the first three of their goal positions.
-const ROWS: [(&str, u32, Class, [i8; 3]); 14] = [
+const ROWS: [(&str, u32, Class, [i8; 3]); 20] = [
     ("true", 0, Class::Control, [-1, -1, -1]),
     ("!", 0, Class::Control, [-1, -1, -1]),
     (",", 2, Class::Control, [-1, -1, -1]),
@@ -18,6 +18,12 @@ const ROWS: [(&str, u32, Class, [i8; 3]); 14] = [
     ("compare", 3, Class::Safe, [-1, -1, -1]),
     ("is", 2, Class::Safe, [-1, -1, -1]),
     (">=", 2, Class::Safe, [-1, -1, -1]),
+    ("sub_atom", 5, Class::Safe, [-1, -1, -1]),
+    ("findall", 3, Class::Meta, [-1, 0, -1]),
+    ("setof", 3, Class::Meta, [-1, 8, -1]),
+    ("maplist", 5, Class::Library, [4, -1, -1]),
+    ("foldl", 4, Class::Library, [3, -1, -1]),
+    (":", 2, Class::Outside, [-1, -1, -1]),
 ];
 
 #[test]
@@ -29,7 +35,7 @@ fn the_rows_of_the_table(rt: HostRuntime) -> Result<(), Fail> {
         let pi = Pi { name, arity };
         let metas = [first, second, third, -1, -1, -1, -1, -1];
         assert_eq!(rt; table.row(&pi), Some(Row { class, metas }));
-        assert!(rt; table.reserved().contains(&pi));
+        assert_eq!(rt; table.reserved().contains(&pi), class != Class::Library);
     }
     for (name, arity) in [("call", 0), ("call", 9), ("append", 3), ("true", 1)] {
         let name = Name::new(alloc, name)?;
