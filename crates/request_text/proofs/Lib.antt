@@ -7,3 +7,4 @@ pub mod Programs
 pub mod RequestLines
 pub mod Scripts
 pub mod TermShapes
+mod Rereading

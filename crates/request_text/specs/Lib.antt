@@ -5,3 +5,4 @@ pub mod Options
 pub mod Requests
 pub mod Shapes
 pub mod Spelled
+pub mod Written

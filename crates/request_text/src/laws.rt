@@ -1,5 +1,8 @@
 // Laws that hold of every script.
 ghost use Rattle.request_text.specs.Laws.{LinesKeepTheirPlaces, ScriptsAreParted};
+ghost use Rattle.request_text.specs.Written.{RequestsAreReadAgain};
+
+use read_back::what_is_written_is_read_again;
 
 /// The place where a line begins is that of the line among all lines, however the lines end.
 pub fn lines_keep_their_places()
@@ -10,3 +13,13 @@ pub fn lines_keep_their_places()
 pub fn scripts_are_parted()
     ensures { ScriptsAreParted }
 {}
+
+/// What [`request_bytes`](crate::request_bytes) writes, [`read_request`](crate::read_request) reads as that again: the same goal, template,
+/// chunk or reply, its variables numbered from 0 by first occurrence.
+///
+/// The terms are those of the code, and the written term's depth is at most 1,000, which is what the reader takes.
+pub fn requests_are_read_again()
+    ensures { RequestsAreReadAgain }
+{
+    what_is_written_is_read_again();
+}

@@ -9,12 +9,14 @@ mod requests;
 mod script;
 mod sent;
 mod shapes;
+mod written;
 
 pub use fault::{RequestFault, ScriptFault, SpecFault, place_of};
-pub use laws::{lines_keep_their_places, scripts_are_parted};
+pub use laws::{lines_keep_their_places, requests_are_read_again, scripts_are_parted};
 pub use requests::read_request;
 pub use script::{Script, read_script};
 pub use sent::Sent;
+pub use written::request_bytes;
 
 #[cfg(test)]
 mod tests;

@@ -1,4 +1,6 @@
-use crate::{RequestFault, ScriptFault, Sent, SpecFault, place_of, read_request, read_script};
+use crate::{
+    RequestFault, ScriptFault, Sent, SpecFault, place_of, read_request, read_script, request_bytes,
+};
 use event_core::Request;
 use program::ProgFault;
 use std::alloc::Global;
@@ -69,6 +71,47 @@ fn requests(rt: HostRuntime) -> Result<(), Fail> {
         let found = request(rt.alloc(), text);
         assert_eq!(rt; found.0, expected.0, "{text}");
         assert_eq!(rt; found.1, expected.1, "{text}");
+    }
+    Ok(())
+}
+
+// Whether a text is a request that is written so, and what is written is read and written alike.
+fn is_written(alloc: Global, text: &str, expected: &str) -> bool {
+    for text in [text, expected] {
+        let Ok(sent) = read_request(alloc, text) else {
+            return false;
+        };
+        let Ok(written) = request_bytes(alloc, &sent) else {
+            return false;
+        };
+        if written.as_slice() != expected.as_bytes() {
+            return false;
+        }
+    }
+    true
+}
+
+#[test]
+fn requests_are_written(rt: HostRuntime) -> Result<(), Fail> {
+    let rows = [
+        ("next .", "next"),
+        ("next( 2 )", "next(2)"),
+        ("stop.", "stop"),
+        ("respond('A'(Y, X, Y))", "respond('A'(_0,_1,_0))"),
+        ("abort", "abort"),
+        ("destroy", "destroy"),
+        ("ask(p(X))", "ask(p(_0))"),
+        ("ask((p, q), [])", "ask((p,q))"),
+        ("ask(p(X),[template(p(X))])", "ask(p(_0))"),
+        ("ask(p(X),[chunk(7)])", "ask(p(_0),[chunk(7)])"),
+        ("ask(p(X),[template(X-Y)])", "ask(p(_0),[template(_0-_1)])"),
+        (
+            "ask(p(X),[chunk(1000),template(a)])",
+            "ask(p(_0),[template(a),chunk(1000)])",
+        ),
+    ];
+    for (text, expected) in rows {
+        assert!(rt; is_written(rt.alloc(), text, expected), "{text}");
     }
     Ok(())
 }
