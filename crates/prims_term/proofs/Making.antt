@@ -1,9 +1,9 @@
 -- Cells that are made one after the other.
-use Rattle.std.proofs.Common.{◌≡◌, ℕ, zero, suc, ◌+◌, ◌-◌, ◌<◌, ◌≤◌, List, [], ◌∷◌, ◌++◌, length, map, drop, get_or, drop-cons, codes, refl, ap, sym, ◌∙◌, subst, arith}
+use Rattle.std.proofs.Common.{◌≡◌, ℕ, zero, suc, ◌+◌, ◌-◌, ◌<◌, List, [], ◌∷◌, length, map, drop, get_or, drop-cons, codes, refl, ap, sym, ◌∙◌, subst, arith}
 use Rattle.std.specs.List.{All}
 use Rattle.std.proofs.lemmas.List.Elements.{All-cons, All-nil, All-weaker}
 use Rattle.term_core.specs.Tree.{Tree, variable, compound, trees_of}
-use Rattle.builtin_table.specs.Lists.{list_of, cell}
+use Rattle.builtin_table.specs.Lists.{cell}
 use Rattle.builtin_table.specs.Primitives.{new_variables}
 use Rattle.store.specs.Cells.{Cells, IsCell, tree_of, Keeps, Makes, variables_from}
 

@@ -1,7 +1,7 @@
 -- What a primitive gives, before cells are made for it.
-use Rattle.std.specs.Prelude.{◌≡◌, ℕ, ◌<◌, ◌≤◌, pos, List, [], ◌∷◌, map, length, slice_index, if◌then◌else◌, Ok, Err, ⊤}
+use Rattle.std.specs.Prelude.{ℕ, ◌<◌, ◌≤◌, pos, List, [], ◌∷◌, map, length, slice_index, if◌then◌else◌, Ok, Err, ⊤}
 use Rattle.std.specs.List.{All}
-use Rattle.term_core.specs.Tree.{Tree, variable, integer, atom, compound, Trees, trees_of, tree_list, arity}
+use Rattle.term_core.specs.Tree.{Tree, variable, integer, atom, compound, trees_of, tree_list, arity}
 use Rattle.term_core.specs.Variables.{variables}
 use Rattle.builtin_table.specs.Lists.{list_of}
 use Rattle.builtin_table.specs.Primitives.{Outcome, Offers, Ball, offer, copy, new_variables, holds}

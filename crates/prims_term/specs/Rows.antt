@@ -1,5 +1,5 @@
 -- The primitives on terms, by their names and how many arguments they have.
-use Rattle.std.specs.Prelude.{ℕ, zero, suc, Bool, true, false, ◌||◌, List, is_some, codes, bytes_eq}
+use Rattle.std.specs.Prelude.{ℕ, zero, suc, Bool, false, ◌||◌, List, is_some, codes, bytes_eq}
 use Rattle.builtin_table.specs.Primitives.{order_named, comparison_named}
 
 -- the tests of a term's kind

@@ -1,10 +1,9 @@
-use Rattle.std.proofs.Common.{◌≡◌, ◌∷◌, [], ◌++◌, List, ℕ, true, false, sym, subst, ap, ◌∙◌, arith}
+use Rattle.std.proofs.Common.{◌≡◌, ◌∷◌, [], ◌++◌, List, ℕ, sym, subst, ◌∙◌, arith}
 use Rattle.std.specs.List.{All}
 use Rattle.std.proofs.lemmas.List.Elements.{All-push}
-use Rattle.term_core.specs.Parts.{symbol_of}
 use Rattle.builtin_table.specs.Lists.{elements, rest}
 use Rattle.store.specs.Cells.{IsCell, tree_of}
-use Rattle.prims_term.proofs.ListCells.{IsListCell, list_cell, elements_more, rest_more, elements_end, rest_end}
+use Rattle.prims_term.proofs.ListCells.{list_cell, elements_more, rest_more, elements_end, rest_end}
 use Rattle.prims_term.proofs.lists.list_parts.Goals as goal
 
 pub arg-element-requires-clause-within : goal.arg-element-requires-clause-within
