@@ -1,8 +1,8 @@
-ghost use Rattle.std.specs.Prelude.{◌≡◌, ◌∷◌, ◌-◌, [], true, length, map, IfOk, OnErr, MatchOption};
+ghost use Rattle.std.specs.Prelude.{◌≡◌, ◌∷◌, ◌+◌, ◌-◌, [], true, length, map, IfOk, OnOk, OnErr, MatchOption};
 ghost use Rattle.std.specs.List.{All};
 ghost use Rattle.builtin_table.specs.Primitives.{primitive};
 ghost use Rattle.store.specs.Cells.{IsCell, tree_of, Keeps, Makes};
-ghost use Rattle.prims_term.specs.Outcomes.{outcome_of, HasCells};
+ghost use Rattle.prims_term.specs.Outcomes.{outcome_of, fresh_of, HasCells};
 ghost use Rattle.prims_term.specs.Plans.{plan_outcome, IsPlan, symbol_tree};
 ghost use Rattle.prims_term.specs.Rows.{is_row};
 
@@ -78,6 +78,8 @@ pub fn call(alloc: Global, store: &mut Store, pi: &Pi, args: &[Cell]) -> Result<
     requires count { length args.now ≡ pi.now.arity }
     ensures outcome { IfOk result (λ o. outcome_of store.new args.now (store.new.next - store.old.next) o
         ≡ primitive pi.now.name (map (tree_of store.old) args.now) store.old.next) }
+    ensures next { OnOk result (store.new.next
+        ≡ store.old.next + fresh_of (primitive pi.now.name (map (tree_of store.old) args.now) store.old.next)) }
     ensures cells { IfOk result (HasCells store.new args.now) }
     ensures keeps { Keeps store.old store.new }
 {
@@ -91,6 +93,7 @@ fn carry_out(alloc: Global, store: &mut Store, args: &[Cell], plan: Plan) -> Res
     requires plan { IsPlan store.old args.now plan }
     ensures outcome { IfOk result (λ o. outcome_of store.new args.now (store.new.next - store.old.next) o
         ≡ plan_outcome store.old args.now plan) }
+    ensures next { OnOk result (store.new.next ≡ store.old.next + fresh_of (plan_outcome store.old args.now plan)) }
     ensures cells { IfOk result (HasCells store.new args.now) }
     ensures keeps { Keeps store.old store.new }
 {
@@ -113,6 +116,7 @@ fn symbol(alloc: Global, store: &mut Store, args: &[Cell], c: Cell) -> Result<Ou
     requires plan { IsPlan store.old args.now (Plan.Symbol c) }
     ensures outcome { IfOk result (λ o. outcome_of store.new args.now (store.new.next - store.old.next) o
         ≡ plan_outcome store.old args.now (Plan.Symbol c)) }
+    ensures next { OnOk result (store.new.next ≡ store.old.next) }
     ensures cells { IfOk result (HasCells store.new args.now) }
     ensures keeps { Keeps store.old store.new }
 {
