@@ -1,0 +1,2 @@
+pub mod ListCells
+pub mod Making
