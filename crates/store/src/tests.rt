@@ -68,6 +68,21 @@ fn compound_is_made(alloc: Global) -> Result<bool, Memory> {
     )
 }
 
+// g of two new variables; then the sample's variables 3 and 2, each once.
+fn variables_are_made(alloc: Global) -> Result<bool, Memory> {
+    let mut store = Store::new(alloc);
+    let fresh = store.fresh("g", 2)?;
+    let cell = store.put(&sample(alloc, 3, 2)?, 0)?;
+    let cells = store.variables(cell)?;
+    Ok(
+        cells.len() == 2
+            && told(store.look(cells[0])) == (0, 3)
+            && told(store.look(cells[1])) == (0, 2)
+            && told(store.look(fresh)) == (3, 2)
+            && told(store.look(store.arg(fresh, 1))) == (0, 1),
+    )
+}
+
 // n(T, T) of the term before, sixty times: a tree of 2^60 leaves in some two hundred cells.
 fn shared(store: &mut Store, leaf: Cell) -> Result<Cell, Memory>
     requires { IsCell store.old leaf }
@@ -112,6 +127,7 @@ fn cells_stand_for_terms(rt: HostRuntime) -> Result<(), Fail> {
     assert!(rt; term_comes_back(alloc)?);
     assert!(rt; copy_is_new(alloc)?);
     assert!(rt; compound_is_made(alloc)?);
+    assert!(rt; variables_are_made(alloc)?);
     assert!(rt; shared_terms_end(alloc)?);
     assert!(rt; small_types_are_kept(alloc)?);
     Ok(())
