@@ -129,8 +129,11 @@ split a b cs k = record { pairs = (a, atom_of (take k cs)) ∷ (b, atom_of (drop
 abbrev pub splits_from : (a b : Tree) → List ℕ → ℕ → List Offer
 splits_from a b cs k = map (split a b cs) (range_with_len k (suc (length cs) - k))
 
+abbrev pub concatenation : (a b : Tree) → Tree
+concatenation a b = atom (text_of a ++ text_of b)
+
 abbrev pub concat_found : (a b c : Tree) → Outcome
-concat_found a b c = if is_variable a || is_variable b then Offers (splits_from a b (characters_of c) 0) else unifies c (atom (text_of a ++ text_of b))
+concat_found a b c = if is_variable a || is_variable b then Offers (splits_from a b (characters_of c) 0) else unifies c (concatenation a b)
 
 abbrev pub atom_concat : Tree → Tree → Tree → Outcome
 atom_concat a b c =
