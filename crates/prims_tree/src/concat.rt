@@ -1,5 +1,5 @@
 // atom_concat/3 and sub_atom/5 (ISO/IEC 13211-1, 8.16.2 and 8.16.3).
-ghost use Rattle.std.specs.Prelude.{◌≡◌, [], ◌∷◌, IfOk};
+ghost use Rattle.std.specs.Prelude.{◌≡◌, [], ◌∷◌, Some, None, IfOk, MatchOption};
 ghost use Rattle.std.specs.List.{find};
 ghost use Rattle.builtin_table.specs.Primitives.{is_compound as is_compound_tree};
 ghost use Rattle.builtin_table.specs.Texts.{concat_ball as concat_ball_of, concatenation as concatenation_of, concat_found as concat_found_of, atom_concat as atom_concat_of, sub_ball as sub_ball_of, sub_atom as sub_atom_of};
@@ -24,7 +24,9 @@ fn concat_ball(alloc: Global, formal: Term) -> Result<Outcome, Memory>
 
 // The first of the three that is a compound.
 fn first_compound<'a>(first: &'a Term, second: &'a Term, whole: &'a Term) -> Option<&'a Term>
-    ensures { result ≡ find is_compound_tree (first.now ∷ second.now ∷ whole.now ∷ []) }
+    ensures { MatchOption result
+        (find is_compound_tree (first.now ∷ second.now ∷ whole.now ∷ []) ≡ None)
+        (λ found. find is_compound_tree (first.now ∷ second.now ∷ whole.now ∷ []) ≡ Some found.now) }
 {
     if is_compound(first) {
         return Some(first);

@@ -1,7 +1,6 @@
 // msort/2, sort/2 and keysort/2 (ISO/IEC 13211-1, Cor.2, 8.4.3 and 8.4.4).
-ghost use Rattle.std.specs.Prelude.{◌≡◌, map, IfOk};
+ghost use Rattle.std.specs.Prelude.{◌≡◌, not, map, Some, None, IfOk, MatchOption};
 ghost use Rattle.std.specs.List.{find};
-ghost use Rattle.std.specs.Prelude.{not};
 ghost use Rattle.builtin_table.specs.Sorting.{sorted, sorted_terms as sorted_terms_of, sorted_set as sorted_set_of, key_cmp, is_pair as is_pair_of, pairs_among as pairs_among_of, msort as msort_of, sort as sort_of, keysort as keysort_of, keysort_made as keysort_made_of};
 ghost use Rattle.builtin_table.specs.Lists.{needed_values as needed_values_of};
 ghost use Rattle.prims_tree.specs.Outcomes.{outcome_of};
@@ -77,7 +76,8 @@ fn is_pair(term: &Term) -> bool
 
 // The first term that is no pair.
 fn first_other(terms: &[Term]) -> Option<&Term>
-    ensures { result ≡ find (λ t. not (is_pair_of t)) terms.now }
+    ensures { MatchOption result (find (λ t. not (is_pair_of t)) terms.now ≡ None)
+        (λ found. find (λ t. not (is_pair_of t)) terms.now ≡ Some found.now) }
 {
     for term in terms {
         if !is_pair(term) {
