@@ -127,7 +127,8 @@ fn sorted_pairs(alloc: Global, terms: &[Term]) -> Result<Vec<Term>, Memory>
 {
     let mut items = with_keys(alloc, terms)?;
     items.sort()?;
-    without_keys(alloc, &items)
+    let terms = without_keys(alloc, &items)?;
+    Ok(terms)
 }
 
 // keysort(L, S).
