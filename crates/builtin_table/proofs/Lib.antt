@@ -2,3 +2,4 @@ pub mod Bits
 pub mod Powers
 pub mod Remainders
 pub mod Shifts
+pub mod Sorting

@@ -1,5 +1,9 @@
 pub mod Arithmetic
 pub mod Errors
 pub mod Lists
+pub mod Numbers
+pub mod Outcomes
 pub mod Primitives
+pub mod Sorting
 pub mod Table
+pub mod Texts

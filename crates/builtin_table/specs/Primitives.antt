@@ -1,4 +1,4 @@
--- What each primitive on terms gives (ISO/IEC 13211-1, 8.2 to 8.7): its results in order, or one ball.
+-- What each primitive gives (ISO/IEC 13211-1, 8.2 to 8.7 and 8.16): its results in order, or one ball.
 use Rattle.std.specs.Prelude.{ℕ, zero, suc, ◌+◌, ℤ, pos, negsuc, Bool, true, false, not, ◌||◌, ◌==◌, nat_lt, if◌then◌else◌, List, [], ◌∷◌, map, length, slice_get, Option, Some, None, Ok, Err, codes, bytes_eq}
 use Rattle.std.specs.declared.cmp.Ordering.{Ordering}
 use Rattle.std.specs.declared.cmp.Ordering.TheVariants.{Less, Equal, Greater}
@@ -8,68 +8,16 @@ use Rattle.term_core.specs.Order.{tree_cmp}
 use Rattle.term_core.specs.Variables.{occurrences, variables, numbered, renamed}
 use Rattle.builtin_table.specs.declared.functions.Relation.{Relation}
 use Rattle.builtin_table.specs.declared.functions.Relation.TheVariants as relation
-use Rattle.builtin_table.specs.Errors.{error_term, indicator_term, instantiation_error, type_error, domain_error, representation_error}
+use Rattle.builtin_table.specs.declared.spelling.Spelling.TheVariants.{Characters, Codes}
+use Rattle.builtin_table.specs.Errors.{instantiation_error, type_error, domain_error, representation_error}
 use Rattle.builtin_table.specs.Lists.{list_of, elements, rest, is_list, empty_list}
 use Rattle.builtin_table.specs.Arithmetic.{Value, value_of}
-
--- one result: pairs that are to be unified from the left, and how many new variables they have
-pub record Offer : Type 0 where
-  pub pairs : List (Tree × Tree)
-  pub fresh : ℕ
-
-pub data Outcome : Type 0 where
-  -- the results in order; one whose pairs don't unify is none
-  Offers : List Offer → Outcome
-  -- an error
-  Ball : Tree → Outcome
-  -- no primitive has this name and so many arguments
-  Unknown : Outcome
-
--- ---- results
-
-abbrev pub offer : List (Tree × Tree) → (fresh : ℕ) → Outcome
-offer ps n = Offers (record { pairs = ps; fresh = n } ∷ [])
-
--- one result, in which these two are one
-abbrev pub unifies : Tree → Tree → Outcome
-unifies t u = offer ((t, u) ∷ []) 0
-
-abbrev pub fails : Outcome
-fails = Offers []
-
--- a test that is passed or fails
-abbrev pub tested : Bool → Outcome
-tested b = if b then offer [] 0 else fails
-
--- the error of a primitive of this name and so many arguments
-abbrev pub ball : List ℕ → ℕ → Tree → Outcome
-ball f n e = Ball (error_term e (indicator_term (record { name = f; arity = n })))
+use Rattle.builtin_table.specs.Sorting.{msort, sort, keysort}
+use Rattle.builtin_table.specs.Texts.{atom_length, char_code, atom_spelled, atom_concat, sub_atom}
+use Rattle.builtin_table.specs.Numbers.{number_spelled, atom_number}
+pub use Rattle.builtin_table.specs.Outcomes.{Offer, Outcome, Offers, Ball, Unknown, offer, unifies, fails, tested, ball, is_variable, is_integer, is_atom, is_compound}
 
 -- ---- tests of a term's kind (8.3)
-
-abbrev pub is_variable : Tree → Bool
-is_variable (variable n) = true
-is_variable (integer z) = false
-is_variable (atom f) = false
-is_variable (compound f ts) = false
-
-abbrev pub is_integer : Tree → Bool
-is_integer (variable n) = false
-is_integer (integer z) = true
-is_integer (atom f) = false
-is_integer (compound f ts) = false
-
-abbrev pub is_atom : Tree → Bool
-is_atom (variable n) = false
-is_atom (integer z) = false
-is_atom (atom f) = true
-is_atom (compound f ts) = false
-
-abbrev pub is_compound : Tree → Bool
-is_compound (variable n) = false
-is_compound (integer z) = false
-is_compound (atom f) = false
-is_compound (compound f ts) = true
 
 -- no variable occurs
 abbrev pub is_ground : Tree → Bool
@@ -235,7 +183,29 @@ univ t l = unifies l (list_of (t ∷ []))
 abbrev pub copy : (next : ℕ) → Tree → Tree
 copy next t = renamed next (numbered t)
 
+-- '$skip_list'(L, K, T): how many cells a term begins with, and what follows them
+abbrev pub skip_list : Tree → Tree → Tree → Outcome
+skip_list l k t = offer ((k, integer (pos (length (elements l)))) ∷ (t, rest l) ∷ []) 0
+
 -- ---- by name
+
+unfoldable pub of_two_lists : List ℕ → Tree → Tree → Outcome
+of_two_lists f t u =
+    if bytes_eq f (codes "msort") then msort t u
+    else if bytes_eq f (codes "sort") then sort t u
+    else if bytes_eq f (codes "keysort") then keysort t u
+    else Unknown
+
+unfoldable pub of_two_texts : List ℕ → Tree → Tree → Outcome
+of_two_texts f t u =
+    if bytes_eq f (codes "atom_length") then atom_length t u
+    else if bytes_eq f (codes "char_code") then char_code t u
+    else if bytes_eq f (codes "atom_chars") then atom_spelled Characters t u
+    else if bytes_eq f (codes "atom_codes") then atom_spelled Codes t u
+    else if bytes_eq f (codes "number_chars") then number_spelled Characters t u
+    else if bytes_eq f (codes "number_codes") then number_spelled Codes t u
+    else if bytes_eq f (codes "atom_number") then atom_number t u
+    else of_two_lists f t u
 
 unfoldable pub of_two_terms : List ℕ → Tree → Tree → (next : ℕ) → Outcome
 of_two_terms f t u next =
@@ -245,7 +215,7 @@ of_two_terms f t u next =
     else if bytes_eq f (codes "=..") then univ t u
     else if bytes_eq f (codes "copy_term") then offer ((u, copy next t) ∷ []) (length (variables t))
     else if bytes_eq f (codes "term_variables") then unifies u (list_of (map variable (variables t)))
-    else Unknown
+    else of_two_texts f t u
 
 unfoldable pub of_two : List ℕ → Tree → Tree → (next : ℕ) → Outcome
 of_two f t u next = elim (order_named f) [
@@ -258,6 +228,13 @@ of_three f t u v next =
     if bytes_eq f (codes "functor") then functor t u v next
     else if bytes_eq f (codes "arg") then arg t u v
     else if bytes_eq f (codes "compare") then compares t (tree_cmp u v)
+    else if bytes_eq f (codes "atom_concat") then atom_concat t u v
+    else if bytes_eq f (codes "$skip_list") then skip_list t u v
+    else Unknown
+
+unfoldable pub of_five : List ℕ → Tree → Tree → Tree → Tree → Tree → Outcome
+of_five f t u v w x =
+    if bytes_eq f (codes "sub_atom") then sub_atom t (record { before = u; len = v; after = w; part = x })
     else Unknown
 
 -- the primitive of this name on these arguments, under the present substitution; new variables are numbered from the next one
@@ -265,4 +242,5 @@ unfoldable pub primitive : List ℕ → List Tree → (next : ℕ) → Outcome
 primitive f (t ∷ []) next = of_one f t
 primitive f (t ∷ u ∷ []) next = of_two f t u next
 primitive f (t ∷ u ∷ v ∷ []) next = of_three f t u v next
+primitive f (t ∷ u ∷ v ∷ w ∷ x ∷ []) next = of_five f t u v w x
 primitive f ts next = Unknown

@@ -5,6 +5,7 @@
 mod errors;
 mod functions;
 mod row;
+mod spelling;
 mod standard;
 mod table;
 
@@ -14,6 +15,7 @@ pub use errors::{
 };
 pub use functions::{Binary, Fault, Relation, Unary};
 pub use row::{Class, Row};
+pub use spelling::Spelling;
 pub use table::Table;
 
 #[cfg(test)]

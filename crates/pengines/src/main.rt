@@ -45,5 +45,9 @@ fn main(rt: HostRuntime) -> ExitCode {
 
 #[cfg(test)]
 mod goals;
+
+#[cfg(test)]
+mod goals;
+
 #[cfg(test)]
 mod tests;

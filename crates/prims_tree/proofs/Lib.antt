@@ -1,4 +1,7 @@
 pub mod Cells
+pub mod Joined
+pub mod Keys
 pub mod NewVariables
+pub mod NextPart
 pub mod Slices
 pub mod TreeValues

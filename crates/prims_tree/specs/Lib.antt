@@ -1,4 +1,5 @@
 pub mod Cells
+pub mod Keys
 pub mod Outcomes
 pub mod Values
 pub mod Views

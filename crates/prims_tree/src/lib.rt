@@ -1,17 +1,27 @@
-//! The primitives on terms, over terms as they are: what a goal of each gives, by the definition that
+//! The primitives over terms as they are: what a goal of each gives, by the definition that
 //! the engine's primitives over cells also have.
 #![tactic(auto)]
 
 mod arg;
+mod atoms;
 mod by_name;
+mod characters;
 mod compare;
+mod concat;
 mod copies;
 mod functor;
+mod keyed;
 mod kinds;
 mod lists;
+mod numbers;
 mod offer;
 mod outcome;
+mod parts;
 mod results;
+mod sorting;
+mod spelled;
+mod splits;
+mod texts;
 mod univ;
 mod values;
 

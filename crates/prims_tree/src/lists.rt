@@ -1,12 +1,19 @@
 // Lists as terms.
-ghost use Rattle.std.specs.Prelude.{◌≡◌, ◌≤◌, ◌∷◌, ◌++◌, length, drop, codes, IfOk, OnOk};
+ghost use Rattle.std.specs.Prelude.{◌≡◌, ◌≤◌, ◌∷◌, ◌++◌, length, drop, codes, Ok, IfOk, OnOk};
+ghost use Rattle.std.specs.List.{list_any};
 ghost use Rattle.term_core.specs.declared.node.Node.TheVariants.{Comp};
 ghost use Rattle.term_core.specs.Parts.{symbol_of};
-ghost use Rattle.builtin_table.specs.Lists.{elements, rest as rest_of, is_list as is_list_tree, is_empty_list, list_of as list_of_trees};
+ghost use Rattle.builtin_table.specs.Lists.{elements, rest as rest_of, is_list as is_list_tree, is_empty_list, list_of as list_of_trees, needed_list as needed_list_of, bound as bound_of, needed_values as needed_values_of};
+ghost use Rattle.builtin_table.specs.Primitives.{is_variable as is_variable_tree, skip_list as skip_list_of};
+ghost use Rattle.prims_tree.specs.Outcomes.{outcome_of};
 ghost use Rattle.prims_tree.specs.Cells.{is_cell_node};
 
+use crate::kinds::is_variable;
+use crate::outcome::Outcome;
+use crate::results::one;
+use builtin_table::{instantiation_error, type_error};
 use std::alloc::Global;
-use term_core::{Memory, Name, Node, Term};
+use term_core::{List, Memory, Name, Node, Term};
 
 // The elements of the cells that a term begins with, and what follows them.
 pub(crate) fn list_parts(alloc: Global, term: &Term) -> Result<(Vec<Term>, Term), Memory>
@@ -83,4 +90,73 @@ fn push_cell(alloc: Global, nodes: &mut Vec<Node>, element: &[Node]) -> Result<(
         nodes.push(node.copied(alloc)?)?;
     }
     Ok(())
+}
+
+// The elements of a list that is needed, or what is wrong.
+pub(crate) fn needed_list(
+    alloc: Global,
+    list: &Term,
+) -> Result<Result<List<Term>, Term>, Memory>
+    ensures { IfOk result (λ r. r ≡ needed_list_of list.now) }
+{
+    let (elements, rest) = list_parts(alloc, list)?;
+    if is_variable(&rest) {
+        return Ok(Err(instantiation_error(alloc)?));
+    }
+    if !is_empty(&rest) {
+        return Ok(Err(type_error(alloc, "list", list.copied(alloc)?)?));
+    }
+    Ok(Ok(List::from_vec(elements)))
+}
+
+// Whether one of these is a variable.
+fn has_variable(terms: &[Term]) -> bool
+    ensures { result ≡ list_any is_variable_tree terms.now }
+{
+    for term in terms {
+        if is_variable(term) {
+            return true;
+        }
+    }
+    false
+}
+
+// The same elements, where none of them is a variable.
+pub(crate) fn bound(alloc: Global, elements: List<Term>) -> Result<Result<List<Term>, Term>, Memory>
+    ensures { IfOk result (λ r. r ≡ bound_of (Ok elements)) }
+{
+    if has_variable(elements.as_slice()) {
+        return Ok(Err(instantiation_error(alloc)?));
+    }
+    Ok(Ok(elements))
+}
+
+// The elements of a list that is needed, of which none may be a variable, or what is wrong.
+pub(crate) fn needed_values(
+    alloc: Global,
+    list: &Term,
+) -> Result<Result<List<Term>, Term>, Memory>
+    ensures { IfOk result (λ r. r ≡ needed_values_of list.now) }
+{
+    match needed_list(alloc, list)? {
+        Ok(elements) => bound(alloc, elements),
+        Err(formal) => Ok(Err(formal)),
+    }
+}
+
+// '$skip_list'(L, K, T).
+pub(crate) fn skip_list(
+    alloc: Global,
+    list: &Term,
+    count: &Term,
+    after: &Term,
+) -> Result<Outcome, Memory>
+    ensures { IfOk result (λ o. outcome_of o ≡ skip_list_of list.now count.now after.now) }
+{
+    let (elements, rest) = list_parts(alloc, list)?;
+    let found = Term::int(alloc, elements.len() as i128)?;
+    let mut pairs = List::new(alloc);
+    pairs.push((count.copied(alloc)?, found))?;
+    pairs.push((after.copied(alloc)?, rest))?;
+    Ok(one(pairs, 0))
 }

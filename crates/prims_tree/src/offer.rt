@@ -1,10 +1,12 @@
 // The results of a primitive.
 ghost use Rattle.std.specs.Prelude.{◌≡◌, [], ◌∷◌, IfOk, OnErr, MatchOption};
-ghost use Rattle.prims_tree.specs.Views.{offer_of};
+ghost use Rattle.builtin_table.specs.Texts.{splits_from, parts_from};
+ghost use Rattle.prims_tree.specs.Views.{offer_of, part_terms_of};
 
+use crate::parts::{PartTerms, Parts};
+use crate::splits::Splits;
 use std::alloc::Global;
 use std::marker::Model;
-use std::mem;
 use term_core::{List, Memory, Term};
 
 /// One result of a primitive: what has to be unified for it.
@@ -16,11 +18,12 @@ pub struct Offer {
     pub fresh: u64,
 }
 
-// What is left to give.
+// What is left to give: one result or none, or the parts of a text.
 #[derive(Debug, Drop)]
 pub(crate) enum Left {
-    Nothing,
-    One(Offer),
+    Ready(Option<Offer>),
+    Splits(Splits),
+    Parts(Parts),
 }
 
 /// The results that a primitive has left, which contracts see as their list. Each is made when it is
@@ -48,7 +51,7 @@ impl Offers {
         ensures { result ≡ [] }
     {
         Offers {
-            left: Left::Nothing,
+            left: Left::Ready(None),
         }
     }
 
@@ -57,19 +60,48 @@ impl Offers {
         ensures { result ≡ offer_of offer ∷ [] }
     {
         Offers {
-            left: Left::One(offer),
+            left: Left::Ready(Some(offer)),
+        }
+    }
+
+    /// The two parts of a text by the length of the first, from 0 on.
+    pub(crate) fn splits(first: Term, second: Term, characters: Vec<char>) -> Offers
+        ensures { result ≡ splits_from first second characters.items 0 }
+    {
+        Offers {
+            left: Left::Splits(Splits {
+                first,
+                second,
+                characters,
+                at: 0,
+            }),
+        }
+    }
+
+    /// The parts of a text by their places, then by their length.
+    pub(crate) fn parts(terms: PartTerms, characters: Vec<char>) -> Offers
+        ensures { result ≡ parts_from (part_terms_of terms) characters.items 0 }
+    {
+        Offers {
+            left: Left::Parts(Parts {
+                terms,
+                characters,
+                start: 0,
+                len: 0,
+            }),
         }
     }
 
     /// Takes the next result; `None` exactly where none is left. After `Memory` the results are as before.
-    pub fn next(&mut self, _alloc: Global) -> Result<Option<Offer>, Memory>
+    pub fn next(&mut self, alloc: Global) -> Result<Option<Offer>, Memory>
         ensures ok { IfOk result (λ r.
             MatchOption r ((self.old ≡ []) × (self.new ≡ [])) (λ o. self.old ≡ offer_of o ∷ self.new)) }
         ensures err { OnErr result (self.new ≡ self.old) }
     {
-        match mem::replace(&mut self.left, Left::Nothing) {
-            Left::Nothing => Ok(None),
-            Left::One(offer) => Ok(Some(offer)),
+        match &mut self.left {
+            Left::Ready(offer) => Ok(offer.take()),
+            Left::Splits(splits) => splits.next(alloc),
+            Left::Parts(parts) => parts.next(alloc),
         }
     }
 }
