@@ -9,7 +9,7 @@ use Rattle.program.specs.Clauses.{Clause, clauses_of}
 use Rattle.solve_model.specs.Goals.{Row, Succeeds, Fails, Cuts, Both, Either, IfElse, Test, Differ, Call, Catch, Throw, Output, Input, Predicate, row_of, Ready, Runs, Throws, ready, with_arguments, unknown_predicate}
 use Rattle.builtin_table.specs.Outside.{reaches_outside}
 use Rattle.builtin_table.specs.Primitives.{Outcome, Offers, Ball, Unknown}
-use Rattle.solve_model.specs.Run.{World, Bindings, Item, Goal, Commit, ExitCatch, End, Failed, Cut, Thrown, Waits, Spent, Outside, Place, Used, Ran, Runner, Branch, ends, after, at_failed, at_cut, at_condition, at_catch, cut_to, in_order, if_ready, Told, Asked, marked, one_reply, if_replied, offered, reply_offer, prompted, throws, undefined, performed, called, locally, branched, differs, recovered_by, caught, goal_step, item_step, some_left}
+use Rattle.solve_model.specs.Run.{World, Bindings, Item, Goal, Commit, ExitCatch, End, Failed, Cut, Thrown, Waits, Spent, Outside, Place, Used, Ran, Runner, Branch, ends, after, at_failed, at_cut, at_condition, at_catch, cut_to, in_order, if_ready, Told, Asked, marked, one_reply, if_replied, offered, reply_offer, throws, undefined, performed, called, locally, branched, differs, recovered_by, caught, goal_step, item_step, some_left}
 
 -- what is done at an end passes on a run that stopped for want of steps or of a reply
 pub record PassesStops (k : End → Used → Ran) : Type 0 where

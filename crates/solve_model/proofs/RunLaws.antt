@@ -2,7 +2,6 @@
 use Rattle.std.proofs.Common.{◌≡◌, ℕ, zero, suc, ◌+◌, ◌≤◌, ◌<◌, Bool, true, false, cond, List, [], ◌∷◌, ◌++◌, nat_le, slice_get, Option, Some, None, refl, ap, arith, ◌⊎◌, inl, inr, subst, sym, append_assoc, append-nil, ◌∙◌}
 use Rattle.std.proofs.lemmas.Bool.{lt-ltb, le-ltb, le-leb, lt-leb, cases_lt}
 use Rattle.std.proofs.lemmas.List.Elements.{filter-append}
-use Rattle.std.proofs.lemmas.Option.{slice_get_within}
 use Rattle.term_core.specs.Tree.{Tree}
 use Rattle.term_core.specs.Variables.{numbered}
 use Rattle.solve_model.specs.Goals.{Ready, Runs, Throws, ready}
@@ -219,12 +218,15 @@ module _ (S : End → Type 0) (sub : (e : End) → S e → IsStopped e) (n : ℕ
   grows_replied l m u (Some t) r' go go' (inr x) h g = cc
   grows_replied l m u None None go go' x h g = (ends_timed l Waits u, inl refl)
   grows_replied l m u None (Some t) go go' (inl e) h g = cc
-  grows_replied l m u None (Some t) go go' (inr x) h g = (replied_timed l u (go' t) (h t g).0, inr (record {
-    stopped = x.1;
-    more = (go' t).marks;
-    is = refl;
-    later = λ e. cc;
-  }))
+  grows_replied l m u None (Some t) go go' (inr x) h g = (
+    replied_timed l u (go' t) (h t g).0,
+    inr (record {
+      stopped = x.1;
+      more = (go' t).marks;
+      is = refl;
+      later = λ e. cc;
+    }),
+  )
 
   module _ (w w' : World) (clauses : w'.clauses ≡ w.clauses) (primitives : w'.primitive ≡ w.primitive) (replies : (k : ℕ) → IsFurther S (slice_get w.replies k) (slice_get w'.replies k)) (limits : w.limit ≤ w'.limit) (spent : w.limit < w'.limit → S Spent) (limit : w.limit ≡ n) where
     grows_kept : (m : ℕ) → IsKept (Grows w'.limit m) w w'

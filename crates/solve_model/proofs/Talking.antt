@@ -1,10 +1,9 @@
 -- Terms that are told, and replies that are asked for.
-use Rattle.std.proofs.Common.{◌≡◌, ℕ, ◌+◌, suc, Bool, List, [], ◌∷◌, ◌++◌, Option, Some, None, slice_get, length, refl, ap, ◌∙◌}
+use Rattle.std.proofs.Common.{◌≡◌, ℕ, ◌+◌, Bool, List, [], ◌∷◌, ◌++◌, Option, Some, None, slice_get, length, refl, ap, ◌∙◌}
 use Rattle.term_core.specs.Tree.{Tree}
 use Rattle.term_core.specs.Unifier.{mgu}
 use Rattle.term_core.specs.Variables.{variables}
 use Rattle.builtin_table.specs.Primitives.{copy}
-use Rattle.solve_model.specs.declared.answers.Trace.{Trace}
 use Rattle.solve_model.specs.declared.answers.TraceMark.{TraceMark}
 use Rattle.solve_model.specs.declared.answers.TraceMark.TheVariants as shown
 use Rattle.solve_model.specs.declared.search.Frame.{Frame}

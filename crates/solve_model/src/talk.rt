@@ -72,9 +72,7 @@ pub(crate) fn tell(
 ) -> Result<Now, Memory>
     ensures { IfOk result (λ n. (w : World) (template : Tree) → whole w template n search.new ≡ whole w template (Now.Tells term branch more) search.old) }
 {
-    search
-        .marks
-        .push((search.steps, TraceMark::Output(term)))?;
+    search.marks.push((search.steps, TraceMark::Output(term)))?;
     Ok(Now::Runs(branch, more))
 }
 
