@@ -3,6 +3,7 @@ pub mod Errors
 pub mod Lists
 pub mod Numbers
 pub mod Outcomes
+pub mod Outside
 pub mod Primitives
 pub mod Sorting
 pub mod Table

@@ -45,9 +45,7 @@ fn main(rt: HostRuntime) -> ExitCode {
 
 #[cfg(test)]
 mod goals;
-
 #[cfg(test)]
 mod goals;
-
 #[cfg(test)]
 mod tests;
