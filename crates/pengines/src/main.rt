@@ -46,6 +46,4 @@ fn main(rt: HostRuntime) -> ExitCode {
 #[cfg(test)]
 mod goals;
 #[cfg(test)]
-mod goals;
-#[cfg(test)]
 mod tests;
