@@ -45,6 +45,5 @@ fn main(rt: HostRuntime) -> ExitCode {
 
 #[cfg(test)]
 mod goals;
-
 #[cfg(test)]
 mod tests;
