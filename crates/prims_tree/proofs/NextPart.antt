@@ -1,5 +1,5 @@
 -- The next part of a text.
-use Rattle.std.proofs.Common.{◌≡◌, ℕ, suc, ◌+◌, ◌-◌, ◌<◌, ◌≤◌, Bool, true, false, nat_lt, if◌then◌else◌, List, [], ◌∷◌, ◌++◌, length, map, Option, Some, None, refl, ap, sym, ◌∙◌, arith}
+use Rattle.std.proofs.Common.{◌≡◌, ℕ, suc, ◌+◌, ◌-◌, ◌<◌, ◌≤◌, Bool, true, false, nat_lt, if◌then◌else◌, List, [], ◌∷◌, ◌++◌, length, map, Option, Some, None, refl, ap, ◌∙◌, arith}
 use Rattle.std.proofs.lemmas.Bool.Decides.{nat_tests}
 use Rattle.std.specs.List.{flat_map, range_with_len}
 use Rattle.builtin_table.specs.Primitives.{Offer}
@@ -30,11 +30,14 @@ module _ (ts : PartTerms) (cs : List ℕ) where
   at_next_place s l h g =
       ap (λ (os : List Offer). os ++ parts_from ts cs (s + 1)) (past s l h) ∙ later (s + 1) (omega (arith, g)) ∙ at_place (s + 1) 0 (omega (arith, g))
 
+  abbrev place : ℕ → ℕ → Option (ℕ × ℕ)
+  place s l = Some (s, l)
+
   abbrev by_place : Option (ℕ × ℕ) → List Offer
   by_place (Some p) = part_at ts cs p.0 p.1 ∷ from_place p.0 (p.1 + 1)
   by_place None = []
 
-  same_place : {s l u v : ℕ} (xs : List Offer) → Some (s, l) ≡ Some (u, v) → xs ≡ part_at ts cs s l ∷ from_place s (l + 1) → xs ≡ part_at ts cs u v ∷ from_place u (v + 1)
+  same_place : {s l u v : ℕ} (xs : List Offer) → place s l ≡ place u v → xs ≡ part_at ts cs s l ∷ from_place s (l + 1) → xs ≡ part_at ts cs u v ∷ from_place u (v + 1)
   same_place xs e h = h ∙ ap (λ (q : Option (ℕ × ℕ)). by_place q) e
 
 abbrev chosen : Bool → Bool → (start len : ℕ) → Option (ℕ × ℕ)
@@ -51,9 +54,9 @@ as_chosen true false start len = refl
 as_chosen false c start len = refl
 
 -- the next part, by its place
-pub next_part : (p : Parts) (start len : ℕ) → Some (start, len) ≡ place_of p → parts_of p ≡ part_at (part_terms_of p.terms) p.characters.items start len ∷ parts_of (record p { start = start; len = len + 1 })
+pub next_part : (p : Parts) (start len : ℕ) → place_of p ≡ Some (start, len) → parts_of p ≡ part_at (part_terms_of p.terms) p.characters.items start len ∷ parts_of (record p { start = start; len = len + 1 })
 next_part p start len h =
-    by (nat_lt (length p.characters.items) (p.start + p.len)) (nat_lt p.start (length p.characters.items)) refl refl (as_chosen _ _ p.start p.len ∙ sym h)
+    by (nat_lt (length p.characters.items) (p.start + p.len)) (nat_lt p.start (length p.characters.items)) refl refl (as_chosen _ _ p.start p.len ∙ h)
   where
     by : (b c : Bool) → nat_lt (length p.characters.items) (p.start + p.len) ≡ b → nat_lt p.start (length p.characters.items) ≡ c → chosen b c p.start p.len ≡ Some (start, len)
         → parts_of p ≡ part_at (part_terms_of p.terms) p.characters.items start len ∷ parts_of (record p { start = start; len = len + 1 })

@@ -47,12 +47,7 @@ fn atom_joined(
 }
 
 // The atom of a list's characters.
-fn atom_made(
-    alloc: Global,
-    spelling: Spelling,
-    atom: &Term,
-    list: &Term,
-) -> Result<Outcome, Memory>
+fn atom_made(alloc: Global, spelling: Spelling, atom: &Term, list: &Term) -> Result<Outcome, Memory>
     ensures { IfOk result (λ o.
         outcome_of o ≡ atom_made_of spelling atom.now (needed_values_of list.now)) }
 {

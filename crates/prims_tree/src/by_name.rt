@@ -88,12 +88,7 @@ fn of_two_terms(
 }
 
 #[tactic(auto, unfolding(builtin_table::specs::Primitives::of_two_texts))]
-fn of_two_texts(
-    alloc: Global,
-    name: &str,
-    first: &Term,
-    second: &Term,
-) -> Result<Outcome, Memory>
+fn of_two_texts(alloc: Global, name: &str, first: &Term, second: &Term) -> Result<Outcome, Memory>
     ensures { IfOk result (λ o. outcome_of o ≡ of_two_texts_tree name.now first.now second.now) }
 {
     match name {
@@ -109,12 +104,7 @@ fn of_two_texts(
 }
 
 #[tactic(auto, unfolding(builtin_table::specs::Primitives::of_two_lists))]
-fn of_two_lists(
-    alloc: Global,
-    name: &str,
-    first: &Term,
-    second: &Term,
-) -> Result<Outcome, Memory>
+fn of_two_lists(alloc: Global, name: &str, first: &Term, second: &Term) -> Result<Outcome, Memory>
     ensures { IfOk result (λ o. outcome_of o ≡ of_two_lists_tree name.now first.now second.now) }
 {
     match name {

@@ -69,11 +69,7 @@ pub(crate) fn character_refusal(
 }
 
 // The list of a text's characters.
-pub(crate) fn character_terms(
-    alloc: Global,
-    spelling: Spelling,
-    text: &str,
-) -> Result<Term, Memory>
+pub(crate) fn character_terms(alloc: Global, spelling: Spelling, text: &str) -> Result<Term, Memory>
     ensures { IfOk result (λ t. t ≡ character_terms_of spelling text.now) }
 {
     let characters = characters(alloc, text)?;

@@ -50,12 +50,7 @@ fn concatenation(alloc: Global, first: &Term, second: &Term) -> Result<Term, Mem
 }
 
 // atom_concat(A, B, C) of terms that are no compounds.
-fn concat_found(
-    alloc: Global,
-    first: &Term,
-    second: &Term,
-    whole: &Term,
-) -> Result<Outcome, Memory>
+fn concat_found(alloc: Global, first: &Term, second: &Term, whole: &Term) -> Result<Outcome, Memory>
     ensures { IfOk result (λ o. outcome_of o ≡ concat_found_of first.now second.now whole.now) }
 {
     if is_either_variable(first, second) {

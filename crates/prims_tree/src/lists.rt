@@ -93,10 +93,7 @@ fn push_cell(alloc: Global, nodes: &mut Vec<Node>, element: &[Node]) -> Result<(
 }
 
 // The elements of a list that is needed, or what is wrong.
-pub(crate) fn needed_list(
-    alloc: Global,
-    list: &Term,
-) -> Result<Result<List<Term>, Term>, Memory>
+pub(crate) fn needed_list(alloc: Global, list: &Term) -> Result<Result<List<Term>, Term>, Memory>
     ensures { IfOk result (λ r. r ≡ needed_list_of list.now) }
 {
     let (elements, rest) = list_parts(alloc, list)?;
@@ -132,10 +129,7 @@ pub(crate) fn bound(alloc: Global, elements: List<Term>) -> Result<Result<List<T
 }
 
 // The elements of a list that is needed, of which none may be a variable, or what is wrong.
-pub(crate) fn needed_values(
-    alloc: Global,
-    list: &Term,
-) -> Result<Result<List<Term>, Term>, Memory>
+pub(crate) fn needed_values(alloc: Global, list: &Term) -> Result<Result<List<Term>, Term>, Memory>
     ensures { IfOk result (λ r. r ≡ needed_values_of list.now) }
 {
     match needed_list(alloc, list)? {

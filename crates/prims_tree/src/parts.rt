@@ -70,7 +70,7 @@ impl Parts {
     pub(crate) fn next(&mut self, alloc: Global) -> Result<Option<Offer>, Memory>
         ensures ok { IfOk result (λ r.
             MatchOption r ((parts_of self.old ≡ []) × (parts_of self.new ≡ []))
-                (λ o. parts_of self.old ≡ offer_of o ∷ parts_of self.new)) }
+            (λ o. parts_of self.old ≡ offer_of o ∷ parts_of self.new)) }
         ensures err { OnErr result (parts_of self.new ≡ parts_of self.old) }
     {
         match self.place() {

@@ -35,7 +35,7 @@ impl Splits {
     pub(crate) fn next(&mut self, alloc: Global) -> Result<Option<Offer>, Memory>
         ensures ok { IfOk result (λ r.
             MatchOption r ((splits_of self.old ≡ []) × (splits_of self.new ≡ []))
-                (λ o. splits_of self.old ≡ offer_of o ∷ splits_of self.new)) }
+            (λ o. splits_of self.old ≡ offer_of o ∷ splits_of self.new)) }
         ensures err { OnErr result (splits_of self.new ≡ splits_of self.old) }
     {
         if self.at > self.characters.len() {
