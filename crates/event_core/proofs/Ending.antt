@@ -7,7 +7,7 @@ use Rattle.solve_model.specs.Run.{World, Mark, Answered, Told, Asked, End, query
 use Rattle.solve_model.specs.Trace.{mark_shown, marks_shown, end_shown}
 use Rattle.solve_model.proofs.Relate.{NotWaits}
 use Rattle.event_core.specs.declared.stop.Stop.{Stop}
-use Rattle.event_core.specs.declared.stop.Stop.TheVariants.{Found, Output, Prompt, NoMore, Ball, Limit, Outside}
+use Rattle.event_core.specs.declared.stop.Stop.TheVariants.{NoMore, Ball, Limit, Outside}
 use Rattle.event_core.specs.Stops.{mark_stop, is_followed, end_stop, at_end, stops_of, cut_at, stop_fits, resource_error, stops}
 use Rattle.event_core.specs.Endings.{at_reply, AfterStop, HasEnd}
 use Rattle.event_core.proofs.Prompts.{AfterMark, Leads, query_leads}

@@ -1,5 +1,5 @@
 -- A piece where further stops follow.
-use Rattle.std.proofs.Common.{◌≡◌, ◌≢◌, ℕ, suc, ◌+◌, Bool, true, false, List, [], ◌∷◌, ◌++◌, refl, ap, sym, ◌∙◌}
+use Rattle.std.proofs.Common.{◌≡◌, ◌≢◌, ℕ, Bool, true, false, List, [], ◌∷◌, ◌++◌, refl, ap, sym, ◌∙◌}
 use Rattle.std.specs.Prelude.{⊤}
 use Rattle.term_core.specs.Tree.{Tree}
 use Rattle.event_core.specs.declared.stop.Stop.{Stop}
@@ -9,7 +9,7 @@ use Rattle.event_core.specs.declared.request.Request.{Request}
 use Rattle.event_core.specs.declared.rest.Rest.{Rest}
 use Rattle.event_core.specs.declared.rest.Rest.TheVariants.{More, Prompting, Over}
 use Rattle.event_core.specs.Parts.{part_of, is_full}
-use Rattle.event_core.specs.Pieces.{Piece, telling, piece_step, piece_of, closes_with, resumed, Seen, seen, adds}
+use Rattle.event_core.specs.Pieces.{Piece, telling, piece_step, piece_of, closes_with, resumed, seen, adds}
 use Rattle.event_core.specs.Endings.{AfterStop, HasEnd}
 use Rattle.event_core.specs.Standing.{awaited}
 use Rattle.event_core.proofs.Pieces.{seen-part_of}

@@ -1,5 +1,5 @@
 -- Stops that go on to an end, or to a prompt for which no reply is left.
-use Rattle.std.specs.Prelude.{ℕ, zero, suc, Bool, true, false, List, [], ◌∷◌}
+use Rattle.std.specs.Prelude.{ℕ, zero, suc, true, false, List, [], ◌∷◌}
 use Rattle.event_core.specs.declared.stop.Stop.{Stop}
 use Rattle.event_core.specs.declared.stop.Stop.TheVariants.{Found, Output, Prompt, NoMore, Ball, Limit, Outside}
 

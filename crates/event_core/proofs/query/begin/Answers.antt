@@ -1,4 +1,4 @@
-use Rattle.std.proofs.Common.{◌≡◌, ◌∙◌, sym, refl, List, [], ℕ}
+use Rattle.std.proofs.Common.{◌∙◌, sym, refl, List, [], ℕ}
 use Rattle.event_core.specs.declared.stop.Stop.{Stop}
 use Rattle.event_core.specs.Pieces.{Piece}
 use Rattle.event_core.specs.Reads.{piece_at}
