@@ -1,7 +1,12 @@
+pub mod Chunks
 pub mod Cutting
+pub mod Ending
+pub mod Growing
+pub mod Longer
 pub mod Parts
 pub mod Pieces
-pub mod Replies
+pub mod Prompts
+pub mod Reading
 pub mod Resting
 mod Rows
 pub mod Standing

@@ -1,3 +1,4 @@
+pub mod Endings
 pub mod Fits
 pub mod Full
 pub mod Laws
@@ -9,4 +10,5 @@ pub mod Reads
 pub mod Requests
 pub mod Standing
 pub mod Stops
+pub mod Summaries
 pub mod Texts

@@ -1,5 +1,5 @@
 -- What kind a request is of, which requests fit, and which chunk holds after them.
-use Rattle.std.specs.Prelude.{ℕ, Some}
+use Rattle.std.specs.Prelude.{ℕ, Bool, true, false, Some}
 use Rattle.event_core.specs.declared.event.Kind.{Kind}
 use Rattle.event_core.specs.declared.event.Kind.TheVariants as kind
 use Rattle.event_core.specs.declared.fit.Fit.{Fit}
@@ -26,3 +26,8 @@ fit r s = Misfit
 abbrev pub chunk_after : Request → ℕ → ℕ
 chunk_after (request.Next (Some d)) c = d
 chunk_after r c = c
+
+-- whether a request brings a reply
+abbrev pub is_reply : Request → Bool
+is_reply (request.Respond t) = true
+is_reply r = false

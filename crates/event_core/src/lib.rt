@@ -5,6 +5,7 @@ mod chunk;
 mod event;
 mod fit;
 mod full;
+mod laws;
 mod limits;
 mod pengine;
 mod piece;
@@ -19,6 +20,9 @@ mod text;
 
 pub use event::{Event, Kind};
 pub use full::all_events;
+pub use laws::{
+    chunks_dont_matter, enough_can_be_asked, further_only_adds, requests_only_add, steps_only_add,
+};
 pub use limits::{CHUNK_BYTES, DEFAULT_LIMIT, MAX_DEPTH, MAX_LIMIT, MAX_TEXT};
 pub use pengine::Pengine;
 pub use print::line;

@@ -1,4 +1,5 @@
-ghost use Rattle.std.specs.Prelude.{◌≡◌, ◌≢◌, ◌↔◌, [], ◌∷◌, IsTrue, IfOk, OnOk, OnErr};
+ghost use Rattle.std.specs.Prelude.{◌≡◌, ◌≢◌, ◌↔◌, List as list, [], ◌∷◌, IsTrue, IfOk, OnOk, OnErr};
+ghost use Rattle.program.specs.Clauses.{Clause};
 ghost use Rattle.event_core.specs.declared.event.Event.TheVariants as event;
 ghost use Rattle.event_core.specs.declared.query.Place.TheVariants.{Asked};
 ghost use Rattle.event_core.specs.declared.rest.Rest.TheVariants as rest;
@@ -34,7 +35,7 @@ fn start(
     request: Request,
 ) -> Result<Outcome, Memory>
     ensures reading { IfOk result (λ o. reading_at (spec_of program.now settings) o ≡ step (spec_of program.now settings) request Free) }
-    ensures stands { IfOk result (λ o. Stands (spec_of program.now settings) o.place) }
+    ensures stands { IfOk result (λ o. Stands program.now settings o.place) }
 {
     let outcome = match request {
         Request::Ask(ask) => begin(alloc, program, settings, ask)?,
@@ -47,18 +48,24 @@ fn start(
 
 impl Query {
     // What a request does to a query that rests.
-    fn answer(self, alloc: Global, destroys: bool, request: Request) -> Result<Outcome, Memory>
+    fn answer(
+        self,
+        alloc: Global,
+        program: &Program,
+        settings: Settings,
+        request: Request,
+    ) -> Result<Outcome, Memory>
         requires { self.rest ≢ rest.Over }
-        ensures reading { IfOk result (λ o. (spec : Spec) → spec.destroys ≡ destroys → IsRead spec self → reading_at spec o ≡ step spec request (place_at spec (Asked self))) }
-        ensures stands { IfOk result (λ o. (spec : Spec) → IsRead spec self → Stands spec o.place) }
+        ensures reading { IfOk result (λ o. IsRead program.now settings self → reading_at (spec_of program.now settings) o ≡ step (spec_of program.now settings) request (place_at (spec_of program.now settings) (Asked self))) }
+        ensures stands { IfOk result (λ o. IsRead program.now settings self → Stands program.now settings o.place) }
     {
         match fit_of(self.rest, &request) {
             Fit::GoesOn => {
-                let outcome = self.go_on(alloc, destroys, request)?;
+                let outcome = self.go_on(alloc, program, settings, request)?;
                 Ok(outcome)
             }
             Fit::Stops => {
-                let outcome = end_with(alloc, destroys, Event::Stop)?;
+                let outcome = end_with(alloc, settings.destroys, Event::Stop)?;
                 Ok(outcome)
             }
             Fit::Misfit => {
@@ -73,7 +80,7 @@ impl Query {
 // What an abort does at a place of rest.
 fn break_off(alloc: Global, destroys: bool, place: Place) -> Result<Outcome, Memory>
     ensures reading { IfOk result (λ o. (spec : Spec) → spec.destroys ≡ destroys → reading_at spec o ≡ strikes_at spec ByAbort (place_at spec place) []) }
-    ensures stands { IfOk result (λ o. (spec : Spec) → Stands spec o.place) }
+    ensures stands { IfOk result (λ o. (cs : list Clause) (s : Settings) → Stands cs s o.place) }
 {
     match place {
         Place::Asked(_) => end_with(alloc, destroys, Event::Abort),
@@ -110,7 +117,7 @@ impl Model for Pengine {
 
     ghost view = { λ p. record { clauses = p.program; settings = p.settings; place = place_at (spec_of p.program p.settings) p.place } };
 
-    ghost invariant = { λ p. Stands (spec_of p.program p.settings) p.place };
+    ghost invariant = { λ p. Stands p.program p.settings p.place };
 }
 
 impl Pengine {
@@ -142,7 +149,7 @@ impl Pengine {
         let place = mem::replace(&mut self.place, Place::Closed);
         let outcome = match place {
             Place::Free => start(alloc, &self.program, self.settings, request)?,
-            Place::Asked(query) => query.answer(alloc, self.settings.destroys, request)?,
+            Place::Asked(query) => query.answer(alloc, &self.program, self.settings, request)?,
             Place::Closed => Outcome {
                 place: Place::Closed,
                 events: List::new(alloc),

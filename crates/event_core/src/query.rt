@@ -1,5 +1,7 @@
 // A query that rests, and the places where a pengine rests.
-ghost use Rattle.std.specs.Prelude.{◌≡◌, [], ◌∷◌, IfOk, length};
+ghost use Rattle.std.specs.Prelude.{◌≡◌, ◌≢◌, List as list, [], ◌∷◌, IfOk, length};
+ghost use Rattle.program.specs.Clauses.{Clause};
+ghost use Rattle.event_core.specs.declared.rest.Rest.TheVariants as rest;
 ghost use Rattle.event_core.specs.declared.fit.Fit.TheVariants.{GoesOn};
 ghost use Rattle.event_core.specs.Requests.{fit};
 ghost use Rattle.event_core.specs.Full.{Spec, In, events_of, closes, comes_to, gives_all_at};
@@ -10,11 +12,9 @@ use crate::piece::{Piece, read_piece};
 use crate::request::{Ask, Request};
 use crate::rest::Rest;
 use crate::settings::Settings;
-use crate::stop::Stop;
-use crate::stops::stops_of;
+use crate::stops::{Run, first_run};
 use program::Program;
 use std::alloc::Global;
-use std::collections::VecDeque;
 use term_core::{List, Memory};
 
 // A query that rests.
@@ -26,8 +26,7 @@ pub(crate) struct Query {
     // How many answers an event holds from now on.
     pub(crate) chunk: u32,
     pub(crate) rest: Rest,
-    // The stops that are still to be told, each with its step.
-    pub(crate) left: VecDeque<(u64, Stop)>,
+    pub(crate) run: Run,
 }
 
 // Where a pengine rests.
@@ -48,7 +47,7 @@ pub(crate) struct Outcome {
 // A query ends, and the pengine too where it is to be destroyed.
 pub(crate) fn end(destroys: bool, mut events: List<Event>) -> Result<Outcome, Memory>
     ensures reading { IfOk result (λ o. (spec : Spec) → reading_at spec o ≡ closes destroys events) }
-    ensures stands { IfOk result (λ o. (spec : Spec) → Stands spec o.place) }
+    ensures stands { IfOk result (λ o. (cs : list Clause) (s : Settings) → Stands cs s o.place) }
 {
     if !destroys {
         let place = Place::Free;
@@ -64,7 +63,7 @@ pub(crate) fn end(destroys: bool, mut events: List<Event>) -> Result<Outcome, Me
 // A query ends with this event.
 pub(crate) fn end_with(alloc: Global, destroys: bool, event: Event) -> Result<Outcome, Memory>
     ensures reading { IfOk result (λ o. (spec : Spec) → reading_at spec o ≡ closes destroys (event ∷ [])) }
-    ensures stands { IfOk result (λ o. (spec : Spec) → Stands spec o.place) }
+    ensures stands { IfOk result (λ o. (cs : list Clause) (s : Settings) → Stands cs s o.place) }
 {
     let mut events = List::new(alloc);
     events.push(event)?;
@@ -76,7 +75,7 @@ impl Query {
     // The query rests, or it has ended.
     pub(crate) fn settle(self, destroys: bool, events: List<Event>) -> Result<Outcome, Memory>
         ensures reading { IfOk result (λ o. (spec : Spec) → spec.destroys ≡ destroys → reading_at spec o ≡ comes_to spec (query_at self) self.rest events) }
-        ensures stands { IfOk result (λ o. (spec : Spec) → IsRead spec self → Stands spec o.place) }
+        ensures stands { IfOk result (λ o. (cs : list Clause) (s : Settings) → (self.rest ≢ rest.Over → IsRead cs s self) → Stands cs s o.place) }
     {
         match self.rest {
             Rest::Over => end(destroys, events),
@@ -91,31 +90,41 @@ impl Query {
     pub(crate) fn go_on(
         self,
         alloc: Global,
-        destroys: bool,
+        program: &Program,
+        settings: Settings,
         request: Request,
     ) -> Result<Outcome, Memory>
         requires { fit self.rest request ≡ GoesOn }
-        ensures reading { IfOk result (λ o. (spec : Spec) → spec.destroys ≡ destroys → IsRead spec self → reading_at spec o ≡ gives_all_at spec (In (further (query_at self) request) (length (events_of spec (query_at self)))) []) }
-        ensures stands { IfOk result (λ o. (spec : Spec) → IsRead spec self → Stands spec o.place) }
+        ensures reading { IfOk result (λ o. IsRead program.now settings self → reading_at (spec_of program.now settings) o ≡ gives_all_at (spec_of program.now settings) (In (further (query_at self) request) (length (events_of (spec_of program.now settings) (query_at self)))) []) }
+        ensures stands { IfOk result (λ o. IsRead program.now settings self → Stands program.now settings o.place) }
     {
         let Query {
             ask,
             mut requests,
             chunk,
             rest: _,
-            left,
+            run,
         } = self;
         let chunk = request.chunk_after(chunk);
+        let is_reply = request.is_reply();
         requests.push(request)?;
+        let Run { found, left } = run.further(
+            alloc,
+            program,
+            settings,
+            &ask,
+            requests.as_slice(),
+            is_reply,
+        )?;
         let Piece { events, rest, left } = read_piece(alloc, chunk, left)?;
         let query = Query {
             ask,
             requests,
             chunk,
             rest,
-            left,
+            run: Run { found, left },
         };
-        let outcome = query.settle(destroys, events)?;
+        let outcome = query.settle(settings.destroys, events)?;
         Ok(outcome)
     }
 }
@@ -139,17 +148,17 @@ pub(crate) fn begin(
     ask: Ask,
 ) -> Result<Outcome, Memory>
     ensures reading { IfOk result (λ o. reading_at (spec_of program.now settings) o ≡ gives_all_at (spec_of program.now settings) (In (record { asked = ask; requests = [] }) 0) []) }
-    ensures stands { IfOk result (λ o. Stands (spec_of program.now settings) o.place) }
+    ensures stands { IfOk result (λ o. Stands program.now settings o.place) }
 {
     let chunk = first_chunk(settings, &ask);
-    let stops = stops_of(alloc, program, &ask, settings.limit)?;
-    let Piece { events, rest, left } = read_piece(alloc, chunk, stops)?;
+    let Run { found, left } = first_run(alloc, program, settings, &ask, &[])?;
+    let Piece { events, rest, left } = read_piece(alloc, chunk, left)?;
     let query = Query {
         ask,
         requests: List::new(alloc),
         chunk,
         rest,
-        left,
+        run: Run { found, left },
     };
     let outcome = query.settle(settings.destroys, events)?;
     Ok(outcome)

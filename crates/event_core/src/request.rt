@@ -29,7 +29,7 @@ pub enum Request {
 }
 
 impl Request {
-    ghost use Rattle.event_core.specs.Requests.{kind_of, chunk_after};
+    ghost use Rattle.event_core.specs.Requests.{kind_of, chunk_after, is_reply};
 
     /// Which kind of request it is.
     pub fn kind(&self) -> Kind
@@ -51,5 +51,12 @@ impl Request {
             Request::Next(Some(new)) => *new,
             Request::Next(None) | Request::Ask(_) | Request::Stop | Request::Respond(_) => chunk,
         }
+    }
+
+    // Whether it brings a reply.
+    pub(crate) fn is_reply(&self) -> bool
+        ensures { result ≡ is_reply self.now }
+    {
+        matches!(self, Request::Respond(_))
     }
 }

@@ -1,12 +1,14 @@
 // The stops of a query, read from its trace.
-ghost use Rattle.std.specs.Prelude.{◌≡◌, ℕ, List as list, true, false, [], ◌∷◌, ◌++◌, IfOk, OnOk, if◌then◌else◌};
+ghost use Rattle.std.specs.Prelude.{◌≡◌, ℕ, List as list, true, false, [], ◌∷◌, ◌++◌, length, drop, IfOk, OnOk, if◌then◌else◌};
 ghost use Rattle.event_core.specs.declared.stop.Stop.TheVariants as stop;
-ghost use Rattle.solve_model.specs.Trace.{world_of};
 ghost use Rattle.event_core.specs.Texts.{quoted};
 ghost use Rattle.event_core.specs.Fits.{fits};
-ghost use Rattle.event_core.specs.Stops.{is_followed, mark_stop, at_end, end_stop, stops_of, resource_error, stop_fits, cut_at, trace_stops, stops};
+ghost use Rattle.event_core.specs.Stops.{is_followed, mark_stop, at_end, end_stop, stops_of, resource_error, stop_fits, cut_at, trace_stops};
+ghost use Rattle.event_core.specs.Parts.{replies};
+ghost use Rattle.event_core.specs.Standing.{stops_for, left_after};
 
-use crate::request::Ask;
+use crate::request::{Ask, Request};
+use crate::settings::Settings;
 use crate::stop::Stop;
 use crate::text::fits;
 use program::Program;
@@ -141,16 +143,93 @@ fn read_trace(alloc: Global, trace: Trace) -> Result<VecDeque<(u64, Stop)>, Memo
     Ok(stops)
 }
 
-// The stops of a query without replies, each with its step.
-pub(crate) fn stops_of(
+// The run of a query: how many stops were found, and those that are still to be read, each with its step.
+#[derive(Debug, Drop)]
+pub(crate) struct Run {
+    pub(crate) found: usize,
+    pub(crate) left: VecDeque<(u64, Stop)>,
+}
+
+// Puts the reply that a request brings, if it brings one, behind the others.
+fn add_reply(alloc: Global, found: &mut Vec<Term>, request: &Request) -> Result<(), Memory>
+    ensures { OnOk result (found.new.items ≡ found.old.items ++ replies (request.now ∷ [])) }
+{
+    if let Request::Respond(term) = request {
+        found.push(term.copied(alloc)?)?;
+    }
+    Ok(())
+}
+
+// The replies that these requests bring.
+fn replies_of(alloc: Global, requests: &[Request]) -> Result<Vec<Term>, Memory>
+    ensures { IfOk result (λ v. v.items ≡ replies requests.now) }
+{
+    let mut found = Vec::new(alloc);
+    for request in requests {
+        add_reply(alloc, &mut found, request)?;
+    }
+    Ok(found)
+}
+
+// The stops of a query from its first step on, with the replies of these requests.
+pub(crate) fn first_run(
     alloc: Global,
     program: &Program,
+    settings: Settings,
     ask: &Ask,
-    limit: u64,
-) -> Result<VecDeque<(u64, Stop)>, Memory>
-    ensures { IfOk result (λ v. v.items ≡ stops (fits quoted) (world_of program.now [] limit) ask.now.goal ask.now.template) }
+    requests: &[Request],
+) -> Result<Run, Memory>
+    ensures left { IfOk result (λ r. r.left.items ≡ stops_for program.now settings ask.now requests.now) }
+    ensures found { IfOk result (λ r. r.found ≡ length (stops_for program.now settings ask.now requests.now)) }
 {
-    let trace = trace(alloc, program, &ask.goal, &ask.template, &[], limit)?;
-    let stops = read_trace(alloc, trace)?;
-    Ok(stops)
+    let replies = replies_of(alloc, requests)?;
+    let trace = trace(
+        alloc,
+        program,
+        &ask.goal,
+        &ask.template,
+        replies.as_slice(),
+        settings.limit,
+    )?;
+    let left = read_trace(alloc, trace)?;
+    let found = left.len();
+    Ok(Run { found, left })
+}
+
+// The stops behind the first `read` ones.
+fn behind(
+    alloc: Global,
+    mut stops: VecDeque<(u64, Stop)>,
+    read: usize,
+) -> Result<VecDeque<(u64, Stop)>, Memory>
+    ensures { IfOk result (λ v. v.items ≡ drop read stops.items) }
+{
+    if stops.len() < read {
+        return Ok(VecDeque::new(alloc));
+    }
+    Ok(stops.split_off(read)?)
+}
+
+impl Run {
+    // The run where the query goes on after the last of these requests. With a reply more it begins anew, and the stops that were read are passed over.
+    pub(crate) fn further(
+        self,
+        alloc: Global,
+        program: &Program,
+        settings: Settings,
+        ask: &Ask,
+        requests: &[Request],
+        is_reply: bool,
+    ) -> Result<Run, Memory>
+        ensures left { IfOk result (λ r. r.left.items ≡ left_after is_reply self.found self.left.items (stops_for program.now settings ask.now requests.now)) }
+        ensures found { IfOk result (λ r. r.found ≡ (if is_reply then length (stops_for program.now settings ask.now requests.now) else self.found)) }
+    {
+        if !is_reply {
+            return Ok(self);
+        }
+        let read = self.found.saturating_sub(self.left.len());
+        let Run { found, left } = first_run(alloc, program, settings, ask, requests)?;
+        let left = behind(alloc, left, read)?;
+        Ok(Run { found, left })
+    }
 }

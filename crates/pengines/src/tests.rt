@@ -236,6 +236,81 @@ const CONTROL: [Case; 8] = [
     },
 ];
 
+const PROMPTS: [Case; 12] = [
+    Case {
+        name: "a prompt and its reply",
+        input: b"---\nask(pengine_input(name,N))\nnext\nrespond(f(Y))\n",
+        written: b"create\nprompt(name)\nerror(protocol_error(next))\nsuccess([pengine_input(name,f(_0))],false)\ndestroy\n",
+        ..DONE
+    },
+    Case {
+        name: "two prompts",
+        input: b"t(X, Y) :- pengine_input(one, X), pengine_input(two(X), Y).\n---\nask(t(X,Y))\nrespond(a)\nrespond(b)\n",
+        written: b"create\nprompt(one)\nprompt(two(a))\nsuccess([t(a,b)],false)\ndestroy\n",
+        ..DONE
+    },
+    Case {
+        name: "a variable in a prompt and in its reply",
+        input: b"---\nask(pengine_input(p(A,B,A),R))\nrespond(r(C,D,C))\n",
+        written: b"create\nprompt(p(_0,_1,_0))\nsuccess([pengine_input(p(_0,_1,_0),r(_2,_3,_2))],false)\ndestroy\n",
+        ..DONE
+    },
+    Case {
+        name: "outputs leave a chunk open",
+        input: b"p(a). p(b). p(c). q(X) :- p(X), pengine_output(told(X)).\n---\nask(q(X),[chunk(2)])\nnext\n",
+        written: b"create\noutput(told(a))\noutput(told(b))\nsuccess([q(a),q(b)],true)\noutput(told(c))\nsuccess([q(c)],false)\ndestroy\n",
+        ..DONE
+    },
+    Case {
+        name: "a prompt behind an open chunk",
+        input: b"r(a). r(X) :- pengine_input(more, X).\n---\nask(r(X),[chunk(5)])\nrespond(b)\nnext\nrespond(c)\n",
+        written: b"create\nsuccess([r(a)],true)\nerror(protocol_error(respond))\nprompt(more)\nsuccess([r(c)],false)\ndestroy\n",
+        ..DONE
+    },
+    Case {
+        name: "each alternative asks anew",
+        input: b"c(1). c(2). s(X) :- c(C), pengine_input(C, X).\n---\nask(s(X))\nrespond(a)\nnext\nrespond(b)\n",
+        written: b"create\nprompt(1)\nsuccess([s(a)],true)\nprompt(2)\nsuccess([s(b)],false)\ndestroy\n",
+        ..DONE
+    },
+    Case {
+        name: "a reply is used up also where its branch fails",
+        input: b"u(X) :- pengine_input(first, X), fail. u(X) :- pengine_input(second, X).\n---\nask(u(X))\nrespond(a)\nrespond(b)\n",
+        written: b"create\nprompt(first)\nprompt(second)\nsuccess([u(b)],false)\ndestroy\n",
+        ..DONE
+    },
+    Case {
+        name: "a reply that doesn't unify",
+        input: b"---\nask(pengine_input(name,f(X)))\nrespond(g(a))\n",
+        written: b"create\nprompt(name)\nfailure\ndestroy\n",
+        ..DONE
+    },
+    Case {
+        name: "the chunk of a next before a prompt",
+        input: b"v(1). v(2). v(3). w(0). w(X) :- pengine_input(then, _), v(X).\n---\nask(w(X))\nnext(2)\nrespond(go)\nnext\n",
+        written: b"create\nsuccess([w(0)],true)\nprompt(then)\nsuccess([w(1),w(2)],true)\nsuccess([w(3)],false)\ndestroy\n",
+        ..DONE
+    },
+    Case {
+        name: "an abort and a stop at a prompt",
+        input: b"---\ncreate([destroy(false)])\nask(pengine_input(name,N))\nstop\nabort\nrespond(a)\nask(true)\n",
+        written: b"create\nprompt(name)\nerror(protocol_error(stop))\nabort\nerror(protocol_error(respond))\nsuccess([true],false)\n",
+        ..DONE
+    },
+    Case {
+        name: "the steps before a prompt count",
+        input: b"---\ncreate([limit(2)])\nask((pengine_input(name,N),true))\nrespond(a)\n",
+        written: b"create\nprompt(name)\nlimit\ndestroy\n",
+        ..DONE
+    },
+    Case {
+        name: "a second query asks for its own replies",
+        input: b"---\ncreate([destroy(false)])\nask(pengine_input(one,A))\nrespond(a)\nask(pengine_input(two,B))\nrespond(b)\n",
+        written: b"create\nprompt(one)\nsuccess([pengine_input(one,a)],false)\nprompt(two)\nsuccess([pengine_input(two,b)],false)\n",
+        ..DONE
+    },
+];
+
 const REFUSALS: [Case; 19] = [
     Case {
         name: "other word",
@@ -421,6 +496,11 @@ fn requests_bring_their_lines(rt: HostRuntime) -> Result<(), Fail> {
 #[test]
 fn control_and_arithmetic(rt: HostRuntime) -> Result<(), Fail> {
     run_cases(&rt, rt.alloc(), &CONTROL)
+}
+
+#[test]
+fn prompts_and_outputs(rt: HostRuntime) -> Result<(), Fail> {
+    run_cases(&rt, rt.alloc(), &PROMPTS)
 }
 
 #[test]

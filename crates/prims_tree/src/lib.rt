@@ -28,6 +28,3 @@ mod values;
 pub use by_name::call;
 pub use offer::{Offer, Offers};
 pub use outcome::Outcome;
-
-#[cfg(test)]
-mod tests;

@@ -1,0 +1,27 @@
+// Laws that hold of the events of every query.
+ghost use Rattle.event_core.specs.Laws.{FurtherOnlyAdds, RequestsOnlyAdd, StepsOnlyAdd, ChunksDontMatter, EnoughCanBeAsked};
+
+/// Further requests and further stops only add: the events that were given stay.
+pub fn further_only_adds()
+    ensures { FurtherOnlyAdds }
+{}
+
+/// Further requests, and the replies that they bring, only add to the events of a query.
+pub fn requests_only_add()
+    ensures { RequestsOnlyAdd }
+{}
+
+/// With more steps and more replies a query has the same stops, but for the limit itself, and then further ones.
+pub fn steps_only_add()
+    ensures { StepsOnlyAdd }
+{}
+
+/// The size of the chunks doesn't matter: where enough was asked, with the same replies, a query gives the same answers joined, the same outputs and the same prompts, and it ends with the same error, at the limit or with no further answer, or rests at the same prompt.
+pub fn chunks_dont_matter()
+    ensures { ChunksDontMatter }
+{}
+
+/// For each size of the chunks and all replies there are requests that ask enough: the query comes to its end, or to a prompt for which no reply is left.
+pub fn enough_can_be_asked()
+    ensures { EnoughCanBeAsked }
+{}

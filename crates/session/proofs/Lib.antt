@@ -1,0 +1,6 @@
+pub mod Lively
+pub mod Numbers
+pub mod Resolution
+pub mod Room
+mod Rows
+pub mod Schedule

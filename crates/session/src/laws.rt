@@ -1,0 +1,17 @@
+// Laws that hold of every pengine over resolution.
+ghost use Rattle.session.specs.Laws.{ScheduleDoesntMatter, NoMoreWait, LostTurnsAreOlder};
+
+/// The schedule doesn't matter: for every list of entries that a pengine can have, its events begin the list that resolution defines for its requests, with each abort, destroy and want of memory striking at one step. Where nothing runs and no request waits they are all of that list.
+pub fn schedule_doesnt_matter()
+    ensures { ScheduleDoesntMatter }
+{}
+
+/// At most 64 requests and 66 events wait.
+pub fn no_more_wait()
+    ensures { NoMoreWait }
+{}
+
+/// A turn that is out and will be dropped is of an earlier query than the one that runs.
+pub fn lost_turns_are_older()
+    ensures { LostTurnsAreOlder }
+{}
