@@ -1,5 +1,5 @@
 -- More steps, more replies and more requests lengthen the stops and the events of a query.
-use Rattle.std.proofs.Common.{◌≡◌, ℕ, Bool, true, false, List, [], ◌∷◌, ◌++◌, refl, ap, sym, subst, ◌∙◌, append_assoc, append-nil, arith, ◌⊎◌, inl, inr}
+use Rattle.std.proofs.Common.{◌≡◌, ℕ, zero, suc, slice_get, Bool, true, false, List, [], ◌∷◌, ◌++◌, refl, ap, sym, subst, ◌∙◌, append_assoc, append-nil, arith, ◌⊎◌, inl, inr}
 use Rattle.std.proofs.lemmas.List.{map-append}
 use Rattle.std.proofs.lemmas.List.Elements.{filter_map-append}
 use Rattle.term_core.specs.Tree.{Tree}
@@ -12,7 +12,7 @@ use Rattle.solve_model.specs.Trace.{marks_shown, end_shown, traced}
 use Rattle.solve_model.specs.declared.answers.TraceMark.{TraceMark}
 use Rattle.solve_model.specs.declared.answers.TraceMark.TheVariants as shown
 use Rattle.solve_model.proofs.RunLaws as lengths
-use Rattle.solve_model.proofs.RunLaws.{IsLonger, run_grows_on}
+use Rattle.solve_model.proofs.RunLaws.{IsFurther, IsLonger, run_grows_on}
 use Rattle.event_core.specs.declared.stop.Stop.{Stop}
 use Rattle.event_core.specs.declared.stop.Stop.TheVariants.{Ball, Limit}
 use Rattle.event_core.specs.declared.request.Request.{Request}
@@ -39,6 +39,12 @@ cut_waited n a b (inr g) =
       ),
     )
 
+-- one reply more lets a run that waited go on
+waits_further : (ts us : List Tree) (k : ℕ) → IsFurther (λ e. e ≡ Waits) (slice_get ts k) (slice_get (ts ++ us) k)
+waits_further [] us k = inr (refl, refl)
+waits_further (t ∷ ts) us zero = inl refl
+waits_further (t ∷ ts) us (suc k) = waits_further ts us k
+
 module _ (w : World) (ts us : List Tree) where
   abbrev first : World
   first = record w { replies = ts }
@@ -60,7 +66,7 @@ module _ (w : World) (ts us : List Tree) where
       ])
       go (Runs h) =
           cut_waited w.limit _ _
-          ((run_grows_on (λ e. e ≡ Waits) (λ e x. inl x) w.limit first second refl refl (omega arith) (λ k. absurd (omega (arith, k))) refl w.limit w.limit 0 (omega arith) (omega arith) (Goal h 1 false ∷ []) (start g t) false unused (omega arith)).1)
+          ((run_grows_on (λ e. e ≡ Waits) (λ e x. inl x) w.limit first second refl refl (waits_further ts us) (omega arith) (λ k. absurd (omega (arith, k))) refl w.limit w.limit 0 (omega arith) (omega arith) (Goal h 1 false ∷ []) (start g t) false unused (omega arith)).1)
       go (Throws b) = inl refl
 
 module _ (fits : Tree → Bool) (t : Tree) where
