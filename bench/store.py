@@ -1,19 +1,20 @@
 #!/usr/bin/env python3
 """Times a store of cells over a term of about a million nodes and measures its memory. Run by hand; no gate reads it.
 
-It builds a small program over `store` in a folder of its own. A time is that of eight times the work less that of
-once, over seven; what putting takes is taken off the others. The memory is what the resident set grows by.
+It builds a small program over `store` in a folder of its own. A time is the process's own, of sixteen times the work
+less that of eight, over eight; what putting takes is taken off the others. The memory is what the greatest resident
+set grows by: below eight times it is that of making the term.
 
 Usage: bench/store.py
 """
 import os
 import tempfile
-import time
 
 from build import built
 
 CELLS = 1_001_001
 LIST_CELLS = 500_000
+FEW = 8
 
 
 def run(program, kind, times):
@@ -21,7 +22,6 @@ def run(program, kind, times):
     best = None
     for _ in range(3):
         read, write = os.pipe()
-        began = time.perf_counter()
         child = os.fork()
         if child == 0:
             os.dup2(read, 0)
@@ -32,7 +32,7 @@ def run(program, kind, times):
         os.write(write, f"{kind} {times}".encode())
         os.close(write)
         _, status, used = os.wait4(child, 0)
-        found = (time.perf_counter() - began, used.ru_maxrss * 1024)
+        found = (used.ru_utime + used.ru_stime, used.ru_maxrss * 1024)
         if status != 0:
             raise SystemExit(f"{kind} {times}: status {status}")
         best = found if best is None else tuple(min(pair) for pair in zip(best, found))
@@ -41,8 +41,8 @@ def run(program, kind, times):
 
 def grown(program, kind):
     """What one more time takes, in seconds and bytes."""
-    once, often = run(program, kind, 1), run(program, kind, 8)
-    return [(many - one) / 7 for one, many in zip(once, often)]
+    less, more = run(program, kind, FEW), run(program, kind, 2 * FEW)
+    return [(many - few) / FEW for few, many in zip(less, more)]
 
 
 def main():
