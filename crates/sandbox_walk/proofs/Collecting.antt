@@ -1,5 +1,5 @@
 -- What is collected over a list, one element further.
-use Rattle.std.proofs.Common.{◌≡◌, ℕ, zero, suc, ◌+◌, ◌-◌, ◌<◌, ◌≤◌, Bool, true, false, ◌||◌, List, [], ◌∷◌, ◌++◌, length, take, drop, get_or, map, filter, if◌then◌else◌, refl, ap, sym, ◌∙◌, append-nil, arith}
+use Rattle.std.proofs.Common.{◌≡◌, ℕ, zero, suc, ◌+◌, ◌-◌, ◌<◌, Bool, true, false, ◌||◌, List, [], ◌∷◌, ◌++◌, length, take, drop, get_or, map, filter, if◌then◌else◌, refl, ap, sym, ◌∙◌, append-nil, append_assoc, arith}
 use Rattle.std.specs.List.{flat_map, list_any}
 use Rattle.std.proofs.lemmas.Grind.{flat_map-append}
 use Rattle.std.proofs.lemmas.List.{take_more, map-append, at_drop_more}
@@ -43,3 +43,18 @@ any_at q g (x ∷ xs) (suc i) d h e = by (q (g x)) (any_at q g xs i d (omega (ar
     by : (b : Bool) → true ≡ list_any q (map g xs) → true ≡ (b || list_any q (map g xs))
     by true k = refl
     by false k = k
+
+pub read_then : {X : Type 0} (b : Bool) (xs ys zs us : List X) → b ≡ true → zs ≡ xs ++ us → us ≡ ys → zs ≡ xs ++ (if b then ys else [])
+read_then b xs ys zs us h e g = e ∙ rw (h, g) refl
+
+pub read_else : {X : Type 0} (b : Bool) (xs ys : List X) → b ≡ false → xs ≡ xs ++ (if b then ys else [])
+read_else b xs ys h = rw h (sym (append-nil xs))
+
+-- the next one, where it is read
+pub read_on : {A B X : Type 0} (f : B → List X) (g : A → B) (xs : List A) (i : ℕ) (d : A) → i < length xs → (q : B → Bool) (start before after : List X) → before ≡ start ++ flat_map f (filter q (map g (take i xs))) → d ≡ get_or xs i d →
+    after ≡ before ++ (if q (g d) then f (g d) else []) → after ≡ start ++ flat_map f (filter q (map g (take (i + 1) xs)))
+read_on f g xs i d inside q start before after e is k =
+    k ∙ ap (λ ys. ys ++ (if q (g d) then f (g d) else [])) e
+    ∙ append_assoc start (flat_map f (filter q (map g (take i xs)))) (if q (g d) then f (g d) else [])
+    ∙ ap (λ ys. start ++ ys)
+      (ap (λ x. flat_map f (filter q (map g (take i xs))) ++ (if q (g x) then f (g x) else [])) is ∙ sym (read_more_of f g xs i d inside q (q (g (get_or xs i d))) refl))

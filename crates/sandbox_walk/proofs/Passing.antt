@@ -1,19 +1,20 @@
 -- The verdict that a goal may be asked says that it passes.
-use Rattle.std.proofs.Common.{◌≡◌, ℕ, Bool, true, false, ◌&&◌, ◌||◌, List, [], ◌∷◌, ◌++◌, filter, if◌then◌else◌, IsTrue, Option, Some, None, is_none, refl, ap, sym, subst, ◌∙◌}
+use Rattle.std.proofs.Common.{◌≡◌, Bool, true, false, ◌&&◌, ◌||◌, List, [], ◌∷◌, ◌++◌, filter, if◌then◌else◌, IsTrue, Option, Some, None, refl, ap, sym, subst, ◌∙◌}
 use Rattle.std.specs.List.{list_any, list_all, flat_map}
 use Rattle.std.specs.Option.{option_map}
 use Rattle.std.proofs.lemmas.Bool.{and_parts}
+use denote.Bor.{Bor}
 use Rattle.term_core.specs.declared.pi.Pi.{Pi}
 use Rattle.term_core.specs.Tree.{Tree}
 use Rattle.builtin_table.specs.Table.{Rows}
-use Rattle.program.specs.Clauses.{Clause, indicator_of, is_for, same_indicator, clauses_of}
+use Rattle.program.specs.Clauses.{Clause, is_for, same_indicator, clauses_of}
 use Rattle.program.proofs.SourceLemmas.{is_own}
 use Rattle.sandbox_walk.specs.declared.found.Stands.TheVariants.{Opens, Unbound, Shut}
 use Rattle.sandbox_walk.specs.declared.found.Found.{Found}
 use Rattle.sandbox_walk.specs.declared.found.Found.TheVariants.{Literal, Place}
 use Rattle.sandbox_walk.specs.declared.unsafe_goal.Unsafe.{Unsafe}
 use Rattle.sandbox_walk.specs.declared.unsafe_goal.Unsafe.TheVariants.{Sandboxed, Uninstantiated, NotCallable}
-use Rattle.sandbox_walk.specs.Verdict.{Reach, by_goal, by_clause, TellsReach, is_outside, enters, in_goal, in_clause, in_predicate, is_literal, has_literal, reads, all_shown, least_outside, lesser, is_unbound, Closed, first_closed, refusal, Verdict}
+use Rattle.sandbox_walk.specs.Verdict.{Reach, by_goal, by_clause, TellsReach, is_outside, enters, in_goal, in_clause, is_literal, has_literal, reads, all_shown, least_outside, lesser, is_unbound, Closed, first_closed, refusal, Verdict}
 use Rattle.sandbox_walk.specs.Passes.{opens, Passes}
 use Rattle.sandbox_walk.proofs.Walking.{same}
 use Rattle.sandbox_walk.proofs.Joining.{all_parts, any_left, any_right}
@@ -127,3 +128,58 @@ module _ (rows : Rows) (p : List Clause) (g : Tree) (reached : Pi → Bool) (tel
 -- a goal that may be asked passes
 pub verdict_passes : (rows : Rows) (p : List Clause) (g : Tree) → Verdict rows p g None → Passes rows p g
 verdict_passes rows p g v = passes rows p g v.0 v.1 v.2
+
+-- ---- the refusals
+
+abbrev refused_by : Option Pi → Bool → Option Closed → Option Unsafe
+refused_by o u c =
+    elim o as (λ x. Option Unsafe) [ Some i ↦ Some (Sandboxed i) | None ↦ if u then Some Uninstantiated else option_map (λ d. NotCallable d.1) c ]
+
+module _ (rows : Rows) (p : List Clause) (g : Tree) (reached : Pi → Bool) (tells : TellsReach rows p g reached) (fs : List Found) (all : fs ≡ all_shown rows p g reached) where
+  judged : (v : Option Unsafe) → v ≡ refusal rows fs → Verdict rows p g v
+  judged v e = (reached, tells, e ∙ ap (refusal rows) all)
+
+  pub tells_outside : (i : Pi) → least_outside rows fs ≡ Some i → Verdict rows p g (Some (Sandboxed i))
+  tells_outside i e = judged (Some (Sandboxed i)) (ap (λ (o : Option Pi). refused_by o (list_any is_unbound fs) (first_closed fs)) (sym e))
+
+  pub tells_unbound : least_outside rows fs ≡ None → list_any is_unbound fs ≡ true → Verdict rows p g (Some Uninstantiated)
+  tells_unbound e u =
+      judged (Some Uninstantiated)
+        (ap (λ (b : Bool). refused_by None b (first_closed fs)) (sym u) ∙ ap (λ (o : Option Pi). refused_by o (list_any is_unbound fs) (first_closed fs)) (sym e))
+
+  -- what is left where nothing is outside or unbound
+  left : least_outside rows fs ≡ None → list_any is_unbound fs ≡ false → option_map (λ d. NotCallable d.1) (first_closed fs) ≡ refusal rows fs
+  left e u =
+      ap (λ (b : Bool). refused_by None b (first_closed fs)) (sym u) ∙ ap (λ (o : Option Pi). refused_by o (list_any is_unbound fs) (first_closed fs)) (sym e)
+
+  pub tells_closed : (t : Tree) → least_outside rows fs ≡ None → list_any is_unbound fs ≡ false → Some t ≡ option_map (λ d. d.1) (first_closed fs) → Verdict rows p g (Some (NotCallable t))
+  tells_closed t e u c = judged (Some (NotCallable t)) (by (first_closed fs) c ∙ left e u)
+    where
+      by : (o : Option Closed) → Some t ≡ option_map (λ d. d.1) o → Some (NotCallable t) ≡ option_map (λ d. NotCallable d.1) o
+      by None k = cc
+      by (Some d) k = let same_term : t ≡ d.1 = cc in ap (λ (x : Tree). Some (NotCallable x)) same_term
+
+  pub tells_none : least_outside rows fs ≡ None → list_any is_unbound fs ≡ false → None ≡ option_map (λ d. d.1) (first_closed fs) → Verdict rows p g None
+  tells_none e u c = judged None (by (first_closed fs) c ∙ left e u)
+    where
+      by : (o : Option Closed) → None ≡ option_map (λ d. d.1) o → None ≡ option_map (λ d. NotCallable d.1) o
+      by None k = refl
+      by (Some d) k = cc
+
+-- ---- what the code is told, of the standard table and the program itself
+
+pub moved_reach : (rows rows2 : Rows) (p q : List Clause) (g : Tree) (reached : Pi → Bool) → rows ≡ rows2 → p ≡ q → TellsReach rows p g reached → TellsReach rows2 q g reached
+moved_reach rows rows2 p q g reached e h t =
+    subst (λ (r : Rows). TellsReach r q g reached) e (subst (λ (cs : List Clause). TellsReach rows cs g reached) h t)
+
+pub moved_shown : (rows rows2 : Rows) (p q : List Clause) (g : Tree) (reached : Pi → Bool) (fs : List Found) → rows ≡ rows2 → p ≡ q → fs ≡ all_shown rows p g reached → fs ≡ all_shown rows2 q g reached
+moved_shown rows rows2 p q g reached fs e h t =
+    t ∙ ap (λ (cs : List Clause). all_shown rows cs g reached) h ∙ ap (λ (r : Rows). all_shown r q g reached) e
+
+pub least_is : (rows rows2 : Rows) (fs ds : List Found) (o x : Option (Bor Pi)) (v : Option Pi) → rows ≡ rows2 → ds ≡ fs → option_map (λ pi. pi.now) o ≡ least_outside rows ds → o ≡ x → option_map (λ pi. pi.now) x ≡ v → least_outside rows2 fs ≡ v
+least_is rows rows2 fs ds o x v e d h i k =
+    ap (λ (r : Rows). least_outside r fs) (sym e) ∙ ap (least_outside rows) (sym d) ∙ sym h ∙ ap (λ (y : Option (Bor Pi)). option_map (λ pi. pi.now) y) i ∙ k
+
+pub closed_is : (fs ds : List Found) (o x : Option (Bor Tree)) (v : Option Tree) → ds ≡ fs → option_map (λ t. t.now) o ≡ option_map (λ d. d.1) (first_closed ds) → o ≡ x → option_map (λ t. t.now) x ≡ v → v ≡ option_map (λ d. d.1) (first_closed fs)
+closed_is fs ds o x v d h i k =
+    sym k ∙ ap (λ (y : Option (Bor Tree)). option_map (λ t. t.now) y) (sym i) ∙ h ∙ ap (λ (xs : List Found). option_map (λ d. d.1) (first_closed xs)) d

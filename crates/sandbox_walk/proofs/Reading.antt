@@ -1,24 +1,23 @@
 -- What a text shows, a term at a time.
-use Rattle.std.proofs.Common.{◌≡◌, ℕ, min, take, get_or, zero, suc, ◌+◌, ◌<◌, ◌≤◌, ℤ, Bool, true, false, ◌&&◌, ◌==◌, List, [], ◌∷◌, ◌++◌, length, reverse, nat_lt, if◌then◌else◌, Option, Some, None, refl, ap, sym, ◌∙◌, ◌⊎◌, inl, inr, append_assoc, append-nil, arith}
+use Rattle.std.proofs.Common.{◌≡◌, ℕ, min, take, get_or, zero, suc, ◌+◌, ◌<◌, ◌≤◌, ℤ, Bool, true, false, ◌&&◌, List, [], ◌∷◌, ◌++◌, length, reverse, Result, Ok, Err, IfOk, nat_lt, if◌then◌else◌, codes, Option, Some, refl, ap, sym, ◌∙◌, append_assoc, append-nil, arith}
 use Rattle.std.specs.List.{flat_map}
 use Rattle.std.proofs.lemmas.Bool.{lt-ltb, le-ltb}
 use Rattle.std.proofs.lemmas.Grind.{flat_map-append}
 use Rattle.std.proofs.lemmas.List.{reverse-reverse, reverse-append, length-append}
 use Rattle.term_core.specs.declared.pi.Pi.{Pi}
-use Rattle.term_core.specs.declared.node.Node.{Node}
 use Rattle.term_core.specs.declared.node.Node.TheVariants as node
 use Rattle.term_core.specs.Tree.{Tree, variable, integer, atom, compound, Trees, no_trees, tree, tree_list, trees_of, arity, IsTerm}
 use Rattle.term_core.specs.Parts.{symbol_of, arguments_of}
 use Rattle.program.specs.Bodies.{is_body}
 use Rattle.sandbox_walk.specs.declared.found.Kind.{Kind}
 use Rattle.sandbox_walk.specs.declared.found.Kind.TheVariants.{Plain, Part, Adds, Behind}
-use Rattle.sandbox_walk.specs.declared.found.Stands.{Stands}
 use Rattle.sandbox_walk.specs.declared.found.Stands.TheVariants.{Opens, Unbound, Shut}
 use Rattle.sandbox_walk.specs.declared.found.Found.{Found}
 use Rattle.sandbox_walk.specs.declared.found.Found.TheVariants.{Literal, Place}
 use Rattle.sandbox_walk.specs.declared.shown.Task.{Task}
+use Rattle.sandbox_walk.specs.declared.shown.Opened.{Opened}
 use Rattle.sandbox_walk.specs.Shown.{Kinds, shown, shown_in, fresh, fresh_one, indicator, called_variable, variables_added, with_variables, stands, stands_if, placed, too_many, is_hat}
-use Rattle.sandbox_walk.specs.Pending.{task_shows, pending, variables, arguments_with, beside, literal_of, is_hat_symbol}
+use Rattle.sandbox_walk.specs.Pending.{task_shows, opened_shows, pending, variables, arguments_with, beside, literal_of, is_hat_symbol}
 
 -- one term is read; what it shows comes next
 pub read_more : (ks : Kinds) (fs ofs x : List Found) (old ots : List Task) → ofs ++ flat_map (task_shows ks) ots ≡ x → (fs ++ ofs) ++ pending ks (old ++ reverse ots) ≡ fs ++ (x ++ pending ks old)
@@ -240,7 +239,7 @@ beside_next ks h (u ∷ ts) (y ∷ xs) (suc i) t x a b =
 pub beside_more : (ks : Kinds) (h : Option Pi) (ts : List Tree) (xs : List Kind) (i : ℕ) (t : Tree) (x : Kind) → i < length ts → i < length xs → beside ks h (take (i + 1) ts) (take (i + 1) xs) ≡ beside ks h (take i ts) (take i xs) ++ shown ks h (get_or ts i t) (get_or xs i x)
 beside_more ks h ts xs i t x a b = let e : i + 1 ≡ suc i = omega arith in rw e (beside_next ks h ts xs i t x a b)
 
-pub beside_all : (ks : Kinds) (h : Option Pi) (ts : List Tree) (xs : List Kind) (n : ℕ) → (length ts ≤ n) ⊎ (length xs ≤ n) → beside ks h (take n ts) (take n xs) ≡ beside ks h ts xs
+pub beside_all : (ks : Kinds) (h : Option Pi) (ts : List Tree) (xs : List Kind) (n : ℕ) → min (length ts) (length xs) ≤ n → beside ks h (take n ts) (take n xs) ≡ beside ks h ts xs
 beside_all ks h [] xs n e = nothing n
   where
     nothing : (k : ℕ) → beside ks h (take k []) (take k xs) ≡ []
@@ -251,7 +250,49 @@ beside_all ks h (u ∷ ts) [] n e = nothing n
     nothing : (k : ℕ) → beside ks h (take k (u ∷ ts)) (take k []) ≡ []
     nothing zero = refl
     nothing (suc k) = refl
-beside_all ks h (u ∷ ts) (y ∷ xs) zero (inl a) = absurd (omega (arith, a))
-beside_all ks h (u ∷ ts) (y ∷ xs) zero (inr a) = absurd (omega (arith, a))
-beside_all ks h (u ∷ ts) (y ∷ xs) (suc n) (inl a) = ap (λ (fs : List Found). shown ks h u y ++ fs) (beside_all ks h ts xs n (inl (omega (arith, a))))
-beside_all ks h (u ∷ ts) (y ∷ xs) (suc n) (inr a) = ap (λ (fs : List Found). shown ks h u y ++ fs) (beside_all ks h ts xs n (inr (omega (arith, a))))
+beside_all ks h (u ∷ ts) (y ∷ xs) zero e = absurd (omega (arith, e))
+beside_all ks h (u ∷ ts) (y ∷ xs) (suc n) e = ap (λ (fs : List Found). shown ks h u y ++ fs) (beside_all ks h ts xs n (omega (arith, e)))
+
+-- ---- what calls answer
+
+-- nothing is left to read
+pub shows_if : {E : Type 0} (ks : Kinds) (r : Result Opened E) (fs xs : List Found) → IfOk r (λ o. o.found.items ≡ fs) → IfOk r (λ o. o.tasks.items ≡ []) →
+    ((found : List Found) (tasks : List Task) → found ≡ fs → tasks ≡ [] → found ++ flat_map (task_shows ks) tasks ≡ xs) → IfOk r (λ o. opened_shows ks o ≡ xs)
+shows_if ks (Ok o) fs xs e g go = go o.found.items o.tasks.items e g
+shows_if ks (Err x) fs xs e g go = tt
+
+-- a literal behind what was found, by its arguments
+pub literal_by : (ks : Kinds) (f : List ℕ) (fs gs : List Found) (ts us : List Tree) → fs ≡ gs → ts ≡ us → fs ++ literal_of ks f ts ≡ gs ++ literal_of ks f us
+literal_by ks f fs gs ts us e g = rw (e, g) refl
+
+pub some_arguments : (t : Tree) (f : List ℕ) (n k : ℕ) (ts : List Tree) → symbol_of t ≡ node.Comp f n → IsTerm t → ts ≡ arguments_with t k → 1 ≤ length ts
+some_arguments (variable m) f n k ts s w e = cc
+some_arguments (integer y) f n k ts s w e = cc
+some_arguments (atom g) f n k ts s w e = cc
+some_arguments (compound g us) f n k ts s w e = omega (arith, length-with us k, w.0, ap (λ (xs : List Tree). length xs) e)
+
+-- whether the extended term is a body
+pub body_by : (x : Tree) (f g : List ℕ) (ts us : List Tree) (b r : Bool) → r ≡ is_body x → x ≡ compound g (trees_of ts) → g ≡ f → ts ≡ us → r ≡ b → is_body (compound f (trees_of us)) ≡ b
+body_by x f g ts us b r e i same args h = rw (← same, ← args, ← i, ← e) h
+
+-- one task more
+pub tasks_more : (ks : Kinds) (h : Option Pi) (ts : List Tree) (xs : List Kind) (i : ℕ) (t : Tree) (x : Kind) (old us : List Task) (new : Task) → i < length ts → i < length xs → us ≡ old ++ new ∷ [] →
+    new.holder ≡ h → new.term ≡ get_or ts i t → new.kind ≡ get_or xs i x → flat_map (task_shows ks) old ≡ beside ks h (take i ts) (take i xs) →
+    flat_map (task_shows ks) us ≡ beside ks h (take (i + 1) ts) (take (i + 1) xs)
+tasks_more ks h ts xs i t x old us new a b e holder term kind before =
+    ap (flat_map (task_shows ks)) e ∙ flat_map-append (task_shows ks) old (new ∷ []) ∙ ap (λ (fs : List Found). flat_map (task_shows ks) old ++ fs) (append-nil (task_shows ks new) ∙ shows)
+    ∙ ap (λ (fs : List Found). fs ++ shown ks h (get_or ts i t) (get_or xs i x)) before ∙ sym (beside_more ks h ts xs i t x a b)
+  where
+    shows : task_shows ks new ≡ shown ks h (get_or ts i t) (get_or xs i x)
+    shows =
+        ap (λ (j : Option Pi). shown ks j new.term new.kind) holder ∙ ap (λ (u : Tree). shown ks h u new.kind) term
+        ∙ ap (λ (y : Kind). shown ks h (get_or ts i t) y) kind
+
+-- an element by whatever stands for none
+pub element_by : {A : Type 0} (xs : List A) (i : ℕ) (d e : A) → i < length xs → get_or xs i d ≡ get_or xs i e
+element_by [] i d e h = absurd (omega (arith, h))
+element_by (x ∷ xs) zero d e h = refl
+element_by (x ∷ xs) (suc i) d e h = element_by xs i d e (omega (arith, h))
+
+pub called_by : (i j : Pi) → i ≡ indicator (codes "call") 1 → j ≡ i → Literal i ∷ Place (Some j) Unbound ∷ [] ≡ called_variable
+called_by i j e g = rw (g, e) refl

@@ -1,7 +1,12 @@
 -- The walk over the predicates: when none waits, those that were seen are just those that are reached.
-use Rattle.std.proofs.Common.{◌≡◌, ℕ, Bool, true, false, ◌&&◌, ◌||◌, ◌==◌, List, [], ◌∷◌, ◌++◌, take, get_or, length, ◌+◌, ◌<◌, IsTrue, bytes_eq, refl, ap, sym, subst, ◌∙◌, ◌⊎◌, inl, inr, arith}
+use Rattle.std.proofs.Common.{◌≡◌, ℕ, Bool, true, false, ◌||◌, ◌==◌, List, [], ◌∷◌, ◌++◌, take, get_or, length, ◌+◌, ◌<◌, IsTrue, bytes_eq, refl, ap, sym, subst, ◌∙◌, ◌⊎◌, inl, inr, arith}
 use Rattle.std.specs.List.{list_any}
 use Rattle.std.specs.Cmp.Lexicographic.{bytes_decides}
+use Rattle.std.specs.Option.{option_map_or}
+use Rattle.std.specs.Ordering.{nat_cmp}
+use Rattle.std.specs.Map.{lookup}
+use Rattle.std.specs.BTreeMap.{is_at}
+use Rattle.std.specs.BTreeSet.{contains_text}
 use Rattle.std.proofs.lemmas.Bool.{and_parts, eqb-true}
 use Rattle.std.proofs.lemmas.List.{take_more}
 use Rattle.term_core.specs.declared.pi.Pi.{Pi}
@@ -9,11 +14,11 @@ use Rattle.term_core.specs.Tree.{Tree}
 use Rattle.builtin_table.specs.Table.{Rows}
 use Rattle.program.specs.Clauses.{Clause, same_indicator}
 use Rattle.sandbox_walk.specs.declared.found.Found.{Found}
-use Rattle.sandbox_walk.specs.declared.found.Found.TheVariants.{Literal, Place}
+use Rattle.sandbox_walk.specs.declared.found.Found.TheVariants.{Literal}
 use Rattle.sandbox_walk.specs.declared.reach.Walk.{Walk}
 use Rattle.sandbox_walk.specs.Shown.{indicator}
 use Rattle.sandbox_walk.specs.Verdict.{Reach, by_goal, by_clause, TellsReach, enters, in_goal, in_predicate, is_literal, has_literal}
-use Rattle.sandbox_walk.specs.Seen.{has, among, IsWalking, HasMet}
+use Rattle.sandbox_walk.specs.Seen.{Names, ByArity, has, among, IsWalking, HasMet}
 
 -- ---- tests
 
@@ -256,3 +261,7 @@ module _ (rows : Rows) (p : List Clause) (g : Tree) where
 
     pub walking_ends : TellsReach rows p g (has w.seen)
     walking_ends = λ i. (k.reached i, seen_all i)
+
+-- nothing was seen at first
+pub none_seen : (m : ByArity) → m.entries ≡ [] → (i : Pi) → has m i ≡ false
+none_seen m e i = ap (λ (es : List (ℕ × Names)). option_map_or (λ (names : Names). contains_text names i.name) (lookup (is_at (nat_cmp i.arity)) es) false) e

@@ -1,5 +1,5 @@
 -- A goal that passes: nothing outside is reached, and a body stands at each goal position.
-use Rattle.std.specs.Prelude.{◌≡◌, ℕ, Bool, true, false, List, length, IsTrue}
+use Rattle.std.specs.Prelude.{◌≡◌, Bool, true, false, List, IsTrue}
 use Rattle.std.specs.List.{list_all}
 use Rattle.term_core.specs.declared.pi.Pi.{Pi}
 use Rattle.term_core.specs.Tree.{Tree}

@@ -1,6 +1,6 @@
 -- Which predicates a goal may reach, and whether it may be asked.
-use Rattle.std.specs.Prelude.{◌≡◌, ℕ, Bool, true, false, ◌||◌, ◌&&◌, List, [], ◌∷◌, ◌++◌, filter, if◌then◌else◌, IsTrue, Option, Some, None, is_none, ⊤}
-use Rattle.std.specs.List.{flat_map, list_any, list_all}
+use Rattle.std.specs.Prelude.{◌≡◌, Bool, true, false, ◌||◌, ◌&&◌, List, [], ◌∷◌, ◌++◌, filter, if◌then◌else◌, IsTrue, Option, Some, None, is_none, ⊤}
+use Rattle.std.specs.List.{flat_map, list_any}
 use Rattle.std.specs.Option.{option_map}
 use Rattle.std.specs.Ordering.{is_lt, nat_cmp, ordering_then}
 use Rattle.term_core.specs.declared.pi.Pi.{Pi}
@@ -8,11 +8,9 @@ use Rattle.term_core.specs.Tree.{Tree}
 use Rattle.term_core.specs.Order.{name_cmp}
 use Rattle.builtin_table.specs.declared.row.Class.{Class}
 use Rattle.builtin_table.specs.declared.row.Class.TheVariants.{Control, Safe, Meta, Library, Outside}
-use Rattle.builtin_table.specs.declared.row.Row.{Row}
 use Rattle.builtin_table.specs.Table.{Rows, row_of}
 use Rattle.program.specs.Clauses.{Clause, indicator_of, same_indicator, clauses_of}
 use Rattle.sandbox_walk.specs.declared.found.Kind.TheVariants.{Part, Adds}
-use Rattle.sandbox_walk.specs.declared.found.Stands.{Stands}
 use Rattle.sandbox_walk.specs.declared.found.Stands.TheVariants.{Opens, Unbound, Shut}
 use Rattle.sandbox_walk.specs.declared.found.Found.{Found}
 use Rattle.sandbox_walk.specs.declared.found.Found.TheVariants.{Literal, Place}

@@ -53,11 +53,19 @@ fn part(alloc: Global, table: &Table, term: &Term) -> Result<Opened, Memory>
                 tasks: Vec::new(alloc),
             })
         }
-        Node::Atom(name) | Node::Comp(name, _) => {
-            let args = with_variables(alloc, term, 0)?;
-            literal(alloc, table, name, &args, Vec::new(alloc))
-        }
+        Node::Atom(name) => own_literal(alloc, table, term, name),
+        Node::Comp(name, _) => own_literal(alloc, table, term, name),
     }
+}
+
+// The literal of a term of this name.
+fn own_literal(alloc: Global, table: &Table, term: &Term, name: &Name) -> Result<Opened, Memory>
+    ensures { IfOk result (λ o.
+        opened_shows (kinds_of table.now) o ≡ literal_of (kinds_of table.now) name.now (arguments_with term.now 0)) }
+{
+    let args = with_variables(alloc, term, 0)?;
+    let opened = literal(alloc, table, name, &args, Vec::new(alloc))?;
+    Ok(opened)
 }
 
 // A goal to which so many arguments are added.
@@ -80,6 +88,8 @@ fn goal(
             literal(alloc, table, name, &args, found)
         }
         Node::Comp(name, _) => {
+            // a compound has 1 to 1,024 arguments
+            let _parts = term.nodes();
             let args = with_variables(alloc, term, added)?;
             if args.len() > MAX_ARITY {
                 return place(alloc, holder, Stands::Opens);

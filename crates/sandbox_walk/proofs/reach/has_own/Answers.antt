@@ -1,4 +1,4 @@
-use Rattle.std.proofs.Common.{ap, sym, ◌∙◌, Bool}
+use Rattle.std.proofs.Common.{ap, sym, ◌∙◌}
 use Rattle.program.specs.declared.clause.Clause as kept
 use Rattle.program.specs.Clauses.{Clause}
 use Rattle.program.specs.Kept.{clause_of}
