@@ -57,4 +57,4 @@ read_on f g xs i d inside q start before after e is k =
     k ∙ ap (λ ys. ys ++ (if q (g d) then f (g d) else [])) e
     ∙ append_assoc start (flat_map f (filter q (map g (take i xs)))) (if q (g d) then f (g d) else [])
     ∙ ap (λ ys. start ++ ys)
-      (ap (λ x. flat_map f (filter q (map g (take i xs))) ++ (if q (g x) then f (g x) else [])) is ∙ sym (read_more_of f g xs i d inside q (q (g (get_or xs i d))) refl))
+    (ap (λ x. flat_map f (filter q (map g (take i xs))) ++ (if q (g x) then f (g x) else [])) is ∙ sym (read_more_of f g xs i d inside q (q (g (get_or xs i d))) refl))

@@ -145,7 +145,7 @@ module _ (rows : Rows) (p : List Clause) (g : Tree) (reached : Pi → Bool) (tel
   pub tells_unbound : least_outside rows fs ≡ None → list_any is_unbound fs ≡ true → Verdict rows p g (Some Uninstantiated)
   tells_unbound e u =
       judged (Some Uninstantiated)
-        (ap (λ (b : Bool). refused_by None b (first_closed fs)) (sym u) ∙ ap (λ (o : Option Pi). refused_by o (list_any is_unbound fs) (first_closed fs)) (sym e))
+      (ap (λ (b : Bool). refused_by None b (first_closed fs)) (sym u) ∙ ap (λ (o : Option Pi). refused_by o (list_any is_unbound fs) (first_closed fs)) (sym e))
 
   -- what is left where nothing is outside or unbound
   left : least_outside rows fs ≡ None → list_any is_unbound fs ≡ false → option_map (λ d. NotCallable d.1) (first_closed fs) ≡ refusal rows fs

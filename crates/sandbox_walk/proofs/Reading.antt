@@ -24,10 +24,10 @@ pub read_more : (ks : Kinds) (fs ofs x : List Found) (old ots : List Task) → o
 read_more ks fs ofs x old ots e =
     append_assoc fs ofs (pending ks (old ++ reverse ots))
     ∙ ap (λ (ys : List Found). fs ++ ys)
-      (ap (λ (us : List Task). ofs ++ flat_map (task_shows ks) us) (reverse-append old (reverse ots) ∙ ap (λ (us : List Task). us ++ reverse old) (reverse-reverse ots))
-      ∙ ap (λ (ys : List Found). ofs ++ ys) (flat_map-append (task_shows ks) ots (reverse old))
-      ∙ sym (append_assoc ofs (flat_map (task_shows ks) ots) (pending ks old))
-      ∙ ap (λ (ys : List Found). ys ++ pending ks old) e)
+    (ap (λ (us : List Task). ofs ++ flat_map (task_shows ks) us) (reverse-append old (reverse ots) ∙ ap (λ (us : List Task). us ++ reverse old) (reverse-reverse ots))
+    ∙ ap (λ (ys : List Found). ofs ++ ys) (flat_map-append (task_shows ks) ots (reverse old))
+    ∙ sym (append_assoc ofs (flat_map (task_shows ks) ots) (pending ks old))
+    ∙ ap (λ (ys : List Found). ys ++ pending ks old) e)
 
 -- ---- arguments side by side with how they are read
 

@@ -95,7 +95,7 @@ met_both fs gs old mid new m n = record {
 pub met_more : (fs : List Found) (i : ℕ) (f : Found) (old mid new : Walk) → i < length fs → f ≡ get_or fs i f → HasMet (take i fs) old mid → HasMet (f ∷ []) mid new → HasMet (take (i + 1) fs) old new
 met_more fs i f old mid new inside is m n =
     subst (λ (gs : List Found). HasMet gs old new) (sym (take_more fs i f inside ∙ ap (λ (x : Found). take i fs ++ x ∷ []) (sym is)))
-      (met_both (take i fs) (f ∷ []) old mid new m n)
+    (met_both (take i fs) (f ∷ []) old mid new m n)
 
 -- a place is no literal
 pub met_place : (f : Found) (w : Walk) → ((i : Pi) → is_literal i f ≡ false) → HasMet (f ∷ []) w w

@@ -104,12 +104,7 @@ fn goal(
 }
 
 // A goal that may stand behind `^`.
-fn behind(
-    alloc: Global,
-    table: &Table,
-    holder: &Option<Pi>,
-    term: &Term,
-) -> Result<Opened, Memory>
+fn behind(alloc: Global, table: &Table, holder: &Option<Pi>, term: &Term) -> Result<Opened, Memory>
     ensures { IfOk result (λ o.
         opened_shows (kinds_of table.now) o ≡ shown_of (kinds_of table.now) holder.now term.now Behind) }
 {

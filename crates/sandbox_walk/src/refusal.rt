@@ -40,13 +40,7 @@ fn lesser<'a>(pi: &'a Pi, other: Option<&'a Pi>) -> &'a Pi
     ensures { result.now ≡ lesser_of pi.now (option_map (λ p. p.now) other.entry) }
 {
     match other {
-        Some(other) => {
-            if is_before(other, pi) {
-                other
-            } else {
-                pi
-            }
-        }
+        Some(other) => { if is_before(other, pi) { other } else { pi } }
         None => pi,
     }
 }

@@ -40,7 +40,7 @@ pub(crate) fn shown(
             holder: None,
             term: term.copied(alloc)?,
             kind
-        }
+        },
     ]?;
     for _ in 0..u64::MAX {
         let Some(task) = tasks.pop() else {
