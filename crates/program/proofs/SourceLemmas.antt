@@ -155,28 +155,28 @@ and_false : (b : Bool) → (b && false) ≡ false
 and_false true = refl
 and_false false = refl
 
-abbrev rule_clause : (t h b : Tree) → Clause
-rule_clause t h b = record { head = h; body = b; vars = length (variables t) }
+abbrev rule_clause : Bool → (t h b : Tree) → Clause
+rule_clause own t h b = record { head = h; body = b; vars = length (variables t); own = own }
 
-abbrev clause_if : (t h b : Tree) → Option Pi → Bool → Option Clause
-clause_if t h b i body = if is_some i && body then Some (rule_clause t h b) else None
+abbrev clause_if : Bool → (t h b : Tree) → Option Pi → Bool → Option Clause
+clause_if own t h b i body = if is_some i && body then Some (rule_clause own t h b) else None
 
-clause_of_rule : (t h b : Tree) → item_of t ≡ Rule h b → clause_in t ≡ clause_if t h b (indicator_of h) (is_body b)
+clause_of_rule : (own : Bool) (t h b : Tree) → item_of t ≡ Rule h b → clause_in own t ≡ clause_if own t h b (indicator_of h) (is_body b)
 unfolding clause_in
-clause_of_rule t h b e = rw e refl
+clause_of_rule own t h b e = rw e refl
 
-pub no_head : (t h b : Tree) → item_of t ≡ Rule h b → indicator_of h ≡ None → None ≡ clause_in t
-no_head t h b e g = rw (clause_of_rule t h b e, g) refl
+pub no_head : (own : Bool) (t h b : Tree) → item_of t ≡ Rule h b → indicator_of h ≡ None → None ≡ clause_in own t
+no_head own t h b e g = rw (clause_of_rule own t h b e, g) refl
 
-pub no_body : (t h b : Tree) → item_of t ≡ Rule h b → is_body b ≡ false → None ≡ clause_in t
-no_body t h b e g = rw (clause_of_rule t h b e, g, and_false (is_some (indicator_of h))) refl
+pub no_body : (own : Bool) (t h b : Tree) → item_of t ≡ Rule h b → is_body b ≡ false → None ≡ clause_in own t
+no_body own t h b e g = rw (clause_of_rule own t h b e, g, and_false (is_some (indicator_of h))) refl
 
-pub the_clause : (t h b : Tree) (pi : Pi) (vars : ℕ) → item_of t ≡ Rule h b → indicator_of h ≡ Some pi → is_body b ≡ true → vars ≡ length (variables t) → Some (record { head = h; body = b; vars = vars }) ≡ clause_in t
-the_clause t h b pi vars e g d v = rw (clause_of_rule t h b e, g, d, v) refl
+pub the_clause : (own : Bool) (t h b : Tree) (pi : Pi) (vars : ℕ) → item_of t ≡ Rule h b → indicator_of h ≡ Some pi → is_body b ≡ true → vars ≡ length (variables t) → Some (record { head = h; body = b; vars = vars; own = own }) ≡ clause_in own t
+the_clause own t h b pi vars e g d v = rw (clause_of_rule own t h b e, g, d, v) refl
 
-pub no_clause : (t d : Tree) → item_of t ≡ Directive d → None ≡ clause_in t
+pub no_clause : (own : Bool) (t d : Tree) → item_of t ≡ Directive d → None ≡ clause_in own t
 unfolding clause_in
-no_clause t d e = rw e refl
+no_clause own t d e = rw e refl
 
 bytes_same : (f : List ℕ) → bytes_eq f f ≡ true
 bytes_same f = (bytes_decides f f).1 refl
@@ -213,25 +213,25 @@ module _ (reserved : List Pi) (n : ℕ) (t : Tree) where
   unfolding fault_of
   bad_directive d e h = rw (e, h) refl
 
-  module _ (h b : Tree) (rule : item_of t ≡ Rule h b) where
-    pub not_callable : None ≡ clause_in t → fault_of reserved n (item_of t) ≡ Some (NotCallable n)
+  module _ (mine : Bool) (h b : Tree) (rule : item_of t ≡ Rule h b) where
+    pub not_callable : None ≡ clause_in mine t → fault_of reserved n (item_of t) ≡ Some (NotCallable n)
     unfolding fault_of
-    not_callable none = rw rule (by (indicator_of h) (is_body b) (none ∙ clause_of_rule t h b rule))
+    not_callable none = rw rule (by (indicator_of h) (is_body b) (none ∙ clause_of_rule mine t h b rule))
       where
-        by : (i : Option Pi) (body : Bool) → None ≡ clause_if t h b i body → fault_at reserved n i body ≡ Some (NotCallable n)
+        by : (i : Option Pi) (body : Bool) → None ≡ clause_if mine t h b i body → fault_at reserved n i body ≡ Some (NotCallable n)
         by None body e = refl
         by (Some pi) true e = cc
         by (Some pi) false e = refl
 
-    pub callable : (c : Clause) (pi : Pi) → Some c ≡ clause_in t → is_for pi c.head ≡ true → fault_of reserved n (item_of t) ≡ redefines reserved n pi
+    pub callable : (c : Clause) (pi : Pi) → Some c ≡ clause_in mine t → is_for pi c.head ≡ true → fault_of reserved n (item_of t) ≡ redefines reserved n pi
     unfolding fault_of
-    callable c pi some of = rw rule (by (indicator_of h) (is_body b) refl (some ∙ clause_of_rule t h b rule))
+    callable c pi some of = rw rule (by (indicator_of h) (is_body b) refl (some ∙ clause_of_rule mine t h b rule))
       where
-        by : (i : Option Pi) (body : Bool) → indicator_of h ≡ i → Some c ≡ clause_if t h b i body → fault_at reserved n i body ≡ redefines reserved n pi
+        by : (i : Option Pi) (body : Bool) → indicator_of h ≡ i → Some c ≡ clause_if mine t h b i body → fault_at reserved n i body ≡ redefines reserved n pi
         by None body own e = cc
         by (Some j) false own e = cc
         by (Some j) true own e =
-            let same : c ≡ rule_clause t h b = cc in
-            let mine : indicator_of h ≡ Some pi = is_own h pi (ap (λ (d : Clause). is_for pi d.head) (sym same) ∙ of) in
-            let here : j ≡ pi = cc in
-            ap (redefines reserved n) here
+            let same : c ≡ rule_clause mine t h b = cc in
+            let here : indicator_of h ≡ Some pi = is_own h pi (ap (λ (d : Clause). is_for pi d.head) (sym same) ∙ of) in
+            let same_pi : j ≡ pi = cc in
+            ap (redefines reserved n) same_pi

@@ -1,5 +1,5 @@
 -- The clauses and the first fault of a text, one term more.
-use Rattle.std.proofs.Common.{◌≡◌, ℕ, ◌+◌, ◌<◌, ◌≤◌, List, [], ◌∷◌, ◌++◌, length, take, drop, get_or, Option, Some, None, refl, ap, sym, ◌∙◌}
+use Rattle.std.proofs.Common.{◌≡◌, ℕ, ◌+◌, ◌<◌, ◌≤◌, Bool, List, [], ◌∷◌, ◌++◌, length, take, drop, get_or, Option, Some, None, refl, ap, sym, ◌∙◌}
 use Rattle.std.specs.List.{cons_option}
 use Rattle.std.specs.Option.{option_to_list}
 use Rattle.std.proofs.lemmas.List.{take_more, drop_more, drop_all, map-append}
@@ -12,8 +12,8 @@ use Rattle.program.specs.declared.fault.ProgFault.TheVariants.{BadDirective, Not
 use Rattle.program.specs.Clauses.{Clause}
 use Rattle.program.specs.Source.{item_of, clause_in, clauses_in, trees_read, fault_of, first_fault, Tells}
 
-one_clause : (t : Tree) → clauses_in (t ∷ []) ≡ option_to_list (clause_in t)
-one_clause t = by (clause_in t)
+one_clause : (own : Bool) (t : Tree) → clauses_in own (t ∷ []) ≡ option_to_list (clause_in own t)
+one_clause own t = by (clause_in own t)
   where
     by : (c : Option Clause) → cons_option c [] ≡ option_to_list c
     by None = refl
@@ -30,15 +30,15 @@ module _ (rs : List ReadTerm) (i : ℕ) (d : ReadTerm) (inside : i < length rs) 
   abbrev r : ReadTerm
   r = get_or rs i d
 
-  clauses_taken : clauses_in (trees_read (take (i + 1) rs)) ≡ clauses_in (trees_read (take i rs)) ++ option_to_list (clause_in r.term)
-  clauses_taken =
-      ap (λ (xs : List ReadTerm). clauses_in (trees_read xs)) (take_more rs i d inside)
-      ∙ ap clauses_in (map-append (λ (x : ReadTerm). x.term) (take i rs) (r ∷ []))
-      ∙ filter_map-append clause_in (trees_read (take i rs)) (r.term ∷ [])
-      ∙ ap (λ (cs : List Clause). clauses_in (trees_read (take i rs)) ++ cs) (one_clause r.term)
+  clauses_taken : (own : Bool) → clauses_in own (trees_read (take (i + 1) rs)) ≡ clauses_in own (trees_read (take i rs)) ++ option_to_list (clause_in own r.term)
+  clauses_taken own =
+      ap (λ (xs : List ReadTerm). clauses_in own (trees_read xs)) (take_more rs i d inside)
+      ∙ ap (clauses_in own) (map-append (λ (x : ReadTerm). x.term) (take i rs) (r ∷ []))
+      ∙ filter_map-append (clause_in own) (trees_read (take i rs)) (r.term ∷ [])
+      ∙ ap (λ (cs : List Clause). clauses_in own (trees_read (take i rs)) ++ cs) (one_clause own r.term)
 
-  pub clauses_more : (cs ds : List Clause) (c : Option Clause) → cs ≡ clauses_in (trees_read (take i rs)) → c ≡ clause_in r.term → ds ≡ cs ++ option_to_list c → ds ≡ clauses_in (trees_read (take (i + 1) rs))
-  clauses_more cs ds c so_far one more = rw (more, so_far, one) (sym clauses_taken)
+  pub clauses_more : (own : Bool) (cs ds : List Clause) (c : Option Clause) → cs ≡ clauses_in own (trees_read (take i rs)) → c ≡ clause_in own r.term → ds ≡ cs ++ option_to_list c → ds ≡ clauses_in own (trees_read (take (i + 1) rs))
+  clauses_more own cs ds c so_far one more = rw (more, so_far, one) (sym (clauses_taken own))
 
   pub faults_more : (reserved : List Pi) (found : Option ProgFault) → fault_of reserved (i + 1) (item_of r.term) ≡ None → first_fault reserved (i + 1) (trees_read (drop i rs)) ≡ found → first_fault reserved (i + 1 + 1) (trees_read (drop (i + 1) rs)) ≡ found
   unfolding first_fault

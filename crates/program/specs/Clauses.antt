@@ -3,11 +3,12 @@ use Rattle.std.specs.Prelude.{ℕ, Bool, false, ◌&&◌, ◌==◌, List, [], �
 use Rattle.term_core.specs.declared.pi.Pi.{Pi}
 use Rattle.term_core.specs.Tree.{Tree, variable, integer, atom, compound, arity}
 
--- a clause, whose variables are numbered from 0 below `vars`
+-- a clause, whose variables are numbered from 0 below `vars`, and whether it is the client's own or the library's
 pub record Clause : Type 0 where
   pub head : Tree
   pub body : Tree
   pub vars : ℕ
+  pub own : Bool
 
 -- the predicate that a head or a goal is of; a variable and an integer are of none (ISO 13211-1, 3.136)
 abbrev pub indicator_of : Tree → Option Pi

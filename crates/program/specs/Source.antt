@@ -91,16 +91,17 @@ Tells found fault = found ≡ Some fault
 -- ---- the program
 
 -- the clause of a rule in a term with so many variables, where the head is callable and the body a body
-abbrev clause_of_item : ℕ → Item → Option Clause
-clause_of_item vars (Directive d) = None
-clause_of_item vars (Rule h b) = if is_some (indicator_of h) && is_body b then Some (record { head = h; body = b; vars = vars }) else None
+abbrev clause_of_item : Bool → ℕ → Item → Option Clause
+clause_of_item own vars (Directive d) = None
+clause_of_item own vars (Rule h b) =
+    if is_some (indicator_of h) && is_body b then Some (record { head = h; body = b; vars = vars; own = own }) else None
 
-unfoldable pub clause_in : Tree → Option Clause
-clause_in t = clause_of_item (length (variables t)) (item_of t)
+unfoldable pub clause_in : Bool → Tree → Option Clause
+clause_in own t = clause_of_item own (length (variables t)) (item_of t)
 
--- the clauses of a source text
-abbrev pub clauses_in : List Tree → List Clause
-clauses_in ts = filter_map clause_in ts
+-- the clauses of a source text, which is the client's own or the library's
+abbrev pub clauses_in : Bool → List Tree → List Clause
+clauses_in own ts = filter_map (clause_in own) ts
 
 -- whether the clauses define the predicate that this is the head of
 abbrev pub defines : List Clause → Tree → Bool

@@ -56,8 +56,8 @@ fn are_all(flags: &[bool]) -> bool
     true
 }
 
-// Whether the name is a connective's, whose two arguments are bodies.
-fn is_connective(name: &Name) -> bool
+/// Whether the name is that of `,`, `;` or `->`, whose two arguments are bodies.
+pub fn is_connective(name: &Name) -> bool
     ensures { result ≡ is_connective_name name.now }
 {
     let text = name.as_str();

@@ -12,6 +12,8 @@ pub struct Clause {
     pub body: Term,
     /// How many variables the clause has; each one's number is less.
     pub vars: u64,
+    /// Whether it stands in the client's text; otherwise it is the library's.
+    pub own: bool,
     pub ghost head_below: { first_free head ≤ vars },
     pub ghost body_below: { first_free body ≤ vars },
 }

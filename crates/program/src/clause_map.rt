@@ -1,9 +1,11 @@
 // Clauses by their predicates.
-ghost use Rattle.std.specs.Prelude.{◌≡◌, ◌++◌, ◌∷◌, [], ℕ, List, length, if◌then◌else◌, bytes_eq, IfOk};
+ghost use Rattle.std.specs.Prelude.{◌≡◌, ◌++◌, ◌∷◌, [], ℕ, List, length, map, filter, not, if◌then◌else◌, bytes_eq, IfOk};
 ghost use Rattle.std.specs.BTreeMap.{get_by_text};
 ghost use Rattle.term_core.specs.declared.pi.Pi.{Pi};
 ghost use Rattle.program.specs.Clauses.{same_indicator};
-ghost use Rattle.program.specs.ByPredicate.{found, held_at};
+ghost use Rattle.program.specs.ByPredicate.{found, held_at, in_order, IsByPredicate};
+ghost use Rattle.program.specs.Kept.{clause_of};
+ghost use Rattle.program.specs.Source.{defines};
 
 use crate::clause::Clause;
 use crate::entry::Entry;
@@ -47,9 +49,10 @@ impl Model for ClauseMap {
 }
 
 impl ClauseMap {
-    ghost use Rattle.std.specs.Prelude.{map, IsTrue};
-    ghost use Rattle.program.specs.Clauses.{is_for, clauses_of};
+    ghost use Rattle.std.specs.Prelude.{map, filter, not};
+    ghost use Rattle.program.specs.Clauses.{clauses_of};
     ghost use Rattle.program.specs.Kept.{clause_of};
+    ghost use Rattle.program.specs.Source.{defines};
 
     pub(crate) fn new(alloc: Global) -> ClauseMap
         ensures { result ≡ [] }
@@ -81,6 +84,38 @@ impl ClauseMap {
         order.push(Place { pi, at })?;
         Ok(ClauseMap { by_arity, order })
     }
+
+    // The clauses in order, without those of each predicate that the other list defines.
+    pub(crate) fn without<'a>(
+        &'a self,
+        alloc: Global,
+        other: &ClauseMap,
+    ) -> Result<Vec<&'a Clause>, Memory>
+        ensures { IfOk result (λ v. map (λ c. clause_of c.now) v.items ≡ filter (λ c. not (defines other.now c.head)) self.now) }
+    {
+        without(alloc, &self.by_arity, &self.order, other)
+    }
+}
+
+// The clauses at these places, without those of each predicate that the other list defines.
+fn without<'a>(
+    alloc: Global,
+    by_arity: &'a ByArity,
+    order: &[Place],
+    other: &ClauseMap,
+) -> Result<Vec<&'a Clause>, Memory>
+    requires { IsByPredicate by_arity.now order.now }
+    ensures { IfOk result (λ v. map (λ c. clause_of c.now) v.items ≡ filter (λ c. not (defines other.now c.head)) (in_order by_arity.now order.now)) }
+{
+    let mut kept = Vec::new(alloc);
+    for place in order {
+        let of_predicate = found(by_arity, &place.pi);
+        let clause = &of_predicate[place.at];
+        if other.of(&place.pi).is_empty() {
+            kept.push(clause)?;
+        }
+    }
+    Ok(kept)
 }
 
 // The clauses that are kept for a predicate.

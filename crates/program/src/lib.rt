@@ -12,7 +12,7 @@ mod program;
 mod source;
 mod texts;
 
-pub use bodies::is_body;
+pub use bodies::{is_body, is_connective};
 pub use clause::Clause;
 pub use fault::ProgFault;
 pub use laws::client_replaces_library;

@@ -4,7 +4,7 @@ use crate::fault::ProgFault;
 use crate::texts::{library_clauses, own_clauses};
 use std::alloc::Global;
 use std::marker::Model;
-use term_core::{Pi, ReadTerm};
+use term_core::{Memory, Pi, ReadTerm};
 
 /// A program, which contracts see as the list of its clauses: the library's, less each predicate that the client defines,
 /// then the client's, in the order of their texts.
@@ -28,7 +28,7 @@ impl Model for Program {
 }
 
 impl Program {
-    ghost use Rattle.std.specs.Prelude.{◌≡◌, map, IfOk, IfErr, OnOk, None};
+    ghost use Rattle.std.specs.Prelude.{◌≡◌, map, true, false, IfOk, IfErr, OnOk, None};
     ghost use Rattle.program.specs.Clauses.{clauses_of};
     ghost use Rattle.program.specs.Kept.{clause_of};
     ghost use Rattle.program.specs.Source.{AreNumbered, trees_read, clauses_in, program_of, first_fault, Tells};
@@ -52,7 +52,7 @@ impl Program {
         requires own_numbered { AreNumbered own.items }
         requires library_numbered { AreNumbered library.now }
         ensures program { IfOk result (λ p.
-            p ≡ program_of (clauses_in (trees_read library.now)) (clauses_in (trees_read own.items))) }
+            p ≡ program_of (clauses_in false (trees_read library.now)) (clauses_in true (trees_read own.items))) }
         ensures accepted { OnOk result (first_fault reserved.now 1 (trees_read own.items) ≡ None) }
         ensures refused { IfErr result (Tells (first_fault reserved.now 1 (trees_read own.items))) }
     {
@@ -71,5 +71,16 @@ impl Program {
         } else {
             own
         }
+    }
+
+    /// All clauses in the program's order: the library's, less each predicate that the client defines, then the client's.
+    pub fn in_order(&self, alloc: Global) -> Result<Vec<&Clause>, Memory>
+        ensures { IfOk result (λ v. map (λ c. clause_of c.now) v.items ≡ self.now) }
+    {
+        let mut clauses = self.library.without(alloc, &self.own)?;
+        let nothing = ClauseMap::new(alloc);
+        let mut own = self.own.without(alloc, &nothing)?;
+        clauses.append(&mut own)?;
+        Ok(clauses)
     }
 }

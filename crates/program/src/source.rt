@@ -1,5 +1,5 @@
 // The terms of a source text.
-ghost use Rattle.std.specs.Prelude.{◌≡◌, None, IfOk, IfErr, OnOk};
+ghost use Rattle.std.specs.Prelude.{◌≡◌, true, false, None, IfOk, IfErr, OnOk};
 ghost use Rattle.std.specs.Option.{option_map};
 ghost use Rattle.program.specs.declared.source.Item.TheVariants.{Rule};
 ghost use Rattle.program.specs.Clauses.{indicator_of};
@@ -34,7 +34,7 @@ pub(crate) fn own_entry(
     ops: &mut Ops,
 ) -> Result<Option<Entry>, ProgFault>
     requires { IsNumbered term.now }
-    ensures entry { IfOk result (λ e. option_map (λ e. clause_of e.clause) e ≡ clause_in term.now) }
+    ensures entry { IfOk result (λ e. option_map (λ e. clause_of e.clause) e ≡ clause_in true term.now) }
     ensures accepted { OnOk result (fault_of reserved.now number (item_of term.now) ≡ None) }
     ensures refused { IfErr result (Tells (fault_of reserved.now number (item_of term.now))) }
 {
@@ -46,7 +46,7 @@ pub(crate) fn own_entry(
             Err(ProgFault::BadDirective { clause: number })
         }
         Item::Rule { head, body } => {
-            let Some(entry) = entry(alloc, term, head, body)? else {
+            let Some(entry) = entry(alloc, term, head, body, true)? else {
                 return Err(ProgFault::NotCallable { clause: number });
             };
             if is_taken(reserved, &entry.pi) {
@@ -63,11 +63,11 @@ pub(crate) fn own_entry(
 // The clause of a library's term, where it is one.
 pub(crate) fn library_entry(alloc: Global, term: &Term) -> Result<Option<Entry>, Memory>
     requires { IsNumbered term.now }
-    ensures { IfOk result (λ e. option_map (λ e. clause_of e.clause) e ≡ clause_in term.now) }
+    ensures { IfOk result (λ e. option_map (λ e. clause_of e.clause) e ≡ clause_in false term.now) }
 {
     match item_in(alloc, term)? {
         Item::Directive(_) => Ok(None),
-        Item::Rule { head, body } => entry(alloc, term, head, body),
+        Item::Rule { head, body } => entry(alloc, term, head, body, false),
     }
 }
 
@@ -106,10 +106,16 @@ fn is_neck(symbol: &Node) -> bool
 }
 
 // The clause of a rule in a term, where the head is callable and the body is a body.
-fn entry(alloc: Global, term: &Term, head: Term, body: Term) -> Result<Option<Entry>, Memory>
+fn entry(
+    alloc: Global,
+    term: &Term,
+    head: Term,
+    body: Term,
+    own: bool,
+) -> Result<Option<Entry>, Memory>
     requires rule { item_of term.now ≡ Rule head body }
     requires numbered { IsNumbered term.now }
-    ensures { IfOk result (λ e. option_map (λ e. clause_of e.clause) e ≡ clause_in term.now) }
+    ensures { IfOk result (λ e. option_map (λ e. clause_of e.clause) e ≡ clause_in own term.now) }
 {
     let Some(pi) = indicator(alloc, &head)? else {
         return Ok(None);
@@ -120,7 +126,12 @@ fn entry(alloc: Global, term: &Term, head: Term, body: Term) -> Result<Option<En
     let vars = term.first_free()?;
     Ok(Some(Entry {
         pi,
-        clause: Clause { head, body, vars },
+        clause: Clause {
+            head,
+            body,
+            vars,
+            own,
+        },
     }))
 }
 

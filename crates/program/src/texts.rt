@@ -1,5 +1,5 @@
 // The clauses of whole texts.
-ghost use Rattle.std.specs.Prelude.{◌≡◌, ◌++◌, None, IfOk, IfErr, OnOk};
+ghost use Rattle.std.specs.Prelude.{◌≡◌, ◌++◌, true, false, None, IfOk, IfErr, OnOk};
 ghost use Rattle.std.specs.Option.{option_map, option_to_list};
 ghost use Rattle.program.specs.Kept.{clause_of};
 ghost use Rattle.program.specs.Source.{AreNumbered, trees_read, clauses_in, first_fault, Tells};
@@ -19,7 +19,7 @@ pub(crate) fn own_clauses(
     reserved: &[Pi],
 ) -> Result<ClauseMap, ProgFault>
     requires { AreNumbered terms.now }
-    ensures clauses { IfOk result (λ m. m ≡ clauses_in (trees_read terms.now)) }
+    ensures clauses { IfOk result (λ m. m ≡ clauses_in true (trees_read terms.now)) }
     ensures accepted { OnOk result (first_fault reserved.now 1 (trees_read terms.now) ≡ None) }
     ensures refused { IfErr result (Tells (first_fault reserved.now 1 (trees_read terms.now))) }
 {
@@ -35,7 +35,7 @@ pub(crate) fn own_clauses(
 // The clauses of a library's text.
 pub(crate) fn library_clauses(alloc: Global, terms: &[ReadTerm]) -> Result<ClauseMap, Memory>
     requires { AreNumbered terms.now }
-    ensures { IfOk result (λ m. m ≡ clauses_in (trees_read terms.now)) }
+    ensures { IfOk result (λ m. m ≡ clauses_in false (trees_read terms.now)) }
 {
     let mut clauses = ClauseMap::new(alloc);
     for i in 0..terms.len() {

@@ -42,7 +42,7 @@ module _ (text : List ℕ) (rs : List ReadTerm) (read : clauses_read iso text �
       ∙ ap (λ k. program_checked (first_fault k 1 (trees_read rs)) (trees_read rs)) (sym same)
       ∙ ap (λ g. program_checked g (trees_read rs)) e
 
-  pub program_made : (p : List Clause) → p ≡ program_of (clauses_in (trees_read [])) (clauses_in (trees_read rs)) → first_fault kept 1 (trees_read rs) ≡ None → program_in text ≡ Ok p
+  pub program_made : (p : List Clause) → p ≡ program_of (clauses_in false (trees_read [])) (clauses_in true (trees_read rs)) → first_fault kept 1 (trees_read rs) ≡ None → program_in text ≡ Ok p
   program_made p is e = checked None e ∙ ap Ok (sym is)
 
   pub program_refused : (f : ProgFault) → Tells (first_fault kept 1 (trees_read rs)) f → (clause_fault f ≡ spec.Memory → ⊥) → program_in text ≡ Err (clause_fault f)

@@ -142,7 +142,7 @@ session_in n (l ∷ ls) = if is_passed l then session_in (n + 1) ls else session
 -- ---- the source text
 
 abbrev pub program_checked : Option ProgFault → List Tree → Result (List Clause) SpecFault
-program_checked None ts = Ok (program_of [] (clauses_in ts))
+program_checked None ts = Ok (program_of [] (clauses_in true ts))
 program_checked (Some f) ts = Err (ClauseFault f)
 
 abbrev pub program_from : Result (List ReadAs) ReadFault → Result (List Clause) SpecFault

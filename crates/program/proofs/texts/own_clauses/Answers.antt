@@ -1,4 +1,4 @@
-use Rattle.std.proofs.Common.{arith}
+use Rattle.std.proofs.Common.{true, arith}
 use Rattle.std.proofs.lemmas.Result.{err_from_is_err_and}
 use Rattle.program.proofs.TextLemmas.{clauses_more, faults_more, fault_here, none_left}
 use Rattle.program.proofs.texts.own_clauses.Goals as goal
@@ -11,7 +11,7 @@ returns-in_err-entry-clause-refused c =
 
 pub loop-i-preserved : goal.loop-i-preserved
 loop-i-preserved c = record {
-  clauses = clauses_more c.args.terms.now c.loop-i.i c.index-terms-i.result c.loop-i-test.true c.loop-i.clauses _ _ c.loop-i.invariant.clauses c.in_ok-entry.ensures.entry c.in_ok-clauses.ensures;
+  clauses = clauses_more c.args.terms.now c.loop-i.i c.index-terms-i.result c.loop-i-test.true true c.loop-i.clauses _ _ c.loop-i.invariant.clauses c.in_ok-entry.ensures.entry c.in_ok-clauses.ensures;
   accepted = faults_more c.args.terms.now c.loop-i.i c.index-terms-i.result c.loop-i-test.true c.args.reserved.now _ c.in_ok-entry.ensures.accepted c.loop-i.invariant.accepted;
 }
 

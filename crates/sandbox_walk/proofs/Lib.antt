@@ -1,0 +1,5 @@
+pub mod Collecting
+pub mod Joining
+pub mod Passing
+pub mod Reading
+pub mod Walking

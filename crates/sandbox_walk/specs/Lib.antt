@@ -1,0 +1,5 @@
+pub mod Passes
+pub mod Pending
+pub mod Seen
+pub mod Shown
+pub mod Verdict

@@ -1,0 +1,22 @@
+//! The sandbox: whether a goal may be asked of a program, before it runs.
+//!
+//! The rules are this project's own, after the manual of SWI-Prolog's `library(sandbox)`: a goal is refused where it may reach
+//! a predicate that is outside, and where what it would run can't be seen before it runs.
+#![tactic(auto)]
+
+mod found;
+mod kinds;
+mod open;
+mod reach;
+mod refusal;
+mod seen;
+mod shown;
+mod texts;
+mod unsafe_goal;
+mod verdict;
+
+pub use unsafe_goal::Unsafe;
+pub use verdict::{Passed, check};
+
+#[cfg(test)]
+mod tests;
