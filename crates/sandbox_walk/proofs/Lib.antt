@@ -3,3 +3,4 @@ pub mod Joining
 pub mod Passing
 pub mod Reading
 pub mod Walking
+pub mod Rounds

@@ -25,15 +25,15 @@ use Rattle.sandbox_walk.specs.Seen.{Names, ByArity, has, among, IsWalking, HasMe
 differ : true ≡ false → ⊥
 differ e = cc
 
-or_left : (a b : Bool) → IsTrue a → IsTrue (a || b)
+pub or_left : (a b : Bool) → IsTrue a → IsTrue (a || b)
 or_left true b h = refl
 or_left false b h = cc
 
-or_right : (a b : Bool) → IsTrue b → IsTrue (a || b)
+pub or_right : (a b : Bool) → IsTrue b → IsTrue (a || b)
 or_right true b h = refl
 or_right false b h = h
 
-or_either : (a b : Bool) → IsTrue (a || b) → IsTrue a ⊎ IsTrue b
+pub or_either : (a b : Bool) → IsTrue (a || b) → IsTrue a ⊎ IsTrue b
 or_either true b h = inl refl
 or_either false b h = inr h
 
@@ -45,7 +45,7 @@ or_false : (a : Bool) → (a || false) ≡ a
 or_false true = refl
 or_false false = refl
 
-any-append : {A : Type 0} (p : A → Bool) (xs ys : List A) → list_any p (xs ++ ys) ≡ (list_any p xs || list_any p ys)
+pub any-append : {A : Type 0} (p : A → Bool) (xs ys : List A) → list_any p (xs ++ ys) ≡ (list_any p xs || list_any p ys)
 any-append p [] ys = refl
 any-append p (x ∷ xs) ys = ap (λ (b : Bool). p x || b) (any-append p xs ys) ∙ sym (or_assoc (p x) (list_any p xs) (list_any p ys))
 

@@ -3,3 +3,4 @@ pub mod Pending
 pub mod Seen
 pub mod Shown
 pub mod Verdict
+pub mod Computed
