@@ -1,5 +1,5 @@
 // The results of a primitive.
-ghost use Rattle.std.specs.Prelude.{◌≡◌, [], ◌∷◌, IfOk, OnErr, MatchOption};
+ghost use Rattle.std.specs.Prelude.{◌≡◌, [], ◌∷◌, map, reverse, IfOk, OnErr, MatchOption};
 ghost use Rattle.prims_tree.specs.Views.{offer_of};
 
 use std::alloc::Global;
@@ -21,6 +21,8 @@ pub struct Offer {
 pub(crate) enum Left {
     Nothing,
     One(Offer),
+    // the first of them last
+    Several(Vec<Offer>),
 }
 
 /// The results that a primitive has left, which contracts see as their list. Each is made when it is
@@ -61,6 +63,15 @@ impl Offers {
         }
     }
 
+    /// These results, the first of them last.
+    pub fn several(offers: Vec<Offer>) -> Offers
+        ensures { result ≡ reverse (map offer_of offers.items) }
+    {
+        Offers {
+            left: Left::Several(offers),
+        }
+    }
+
     /// Takes the next result; `None` exactly where none is left. After `Memory` the results are as before.
     pub fn next(&mut self, _alloc: Global) -> Result<Option<Offer>, Memory>
         ensures ok { IfOk result (λ r.
@@ -70,6 +81,17 @@ impl Offers {
         match mem::replace(&mut self.left, Left::Nothing) {
             Left::Nothing => Ok(None),
             Left::One(offer) => Ok(Some(offer)),
+            Left::Several(offers) => Ok(self.next_of(offers)),
         }
+    }
+
+    // Takes the last of these and leaves the others.
+    fn next_of(&mut self, offers: Vec<Offer>) -> Option<Offer>
+        ensures { MatchOption result ((reverse (map offer_of offers.items) ≡ []) × (self.new ≡ [])) (λ o. reverse (map offer_of offers.items) ≡ offer_of o ∷ self.new) }
+    {
+        let mut offers = offers;
+        let next = offers.pop();
+        self.left = Left::Several(offers);
+        next
     }
 }
