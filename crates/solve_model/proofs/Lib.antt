@@ -1,6 +1,8 @@
 pub mod Choosing
 pub mod ClashLemmas
 pub mod Dropped
+pub mod Gathering
+pub mod Grouping
 pub mod MatchLemmas
 pub mod Relate
 pub mod Resume

@@ -6,11 +6,11 @@ use Rattle.solve_model.specs.Trace.{world_of}
 use Rattle.solve_model.proofs.Resume.{answered, spent, stepped, items_pushed, nothing_kept}
 use Rattle.solve_model.proofs.solver.take.Goals as goal
 
-pub returns-in_default : goal.returns-in_default
-returns-in_default c = λ ts.
-    answered (world_of c.args.program.now ts c.args.limit) c.args.template.now c.args.search.now.stack.frames.items c.args.search.now.marks c.push.new.self (items_of c.args.branch.items.items) (place_of c.args.branch.place) c.args.more (used_of c.args.search.now.steps) c.in_ok-term.term
+pub returns-in_ok-answer : goal.returns-in_ok-answer
+returns-in_ok-answer c = λ ts.
+    answered (world_of c.args.program.now ts c.args.limit) c.args.template.now c.args.search.now.stack.frames.items c.args.search.now.marks (items_of c.args.branch.items.items) (place_of c.args.branch.place) c.args.more (used_of c.args.search.now.steps) _
     (ap items_of (nothing_kept c.args.branch.items.items _ c.in_default.ensures.cases.0 (omega (arith, c.args.branch.items.ok.0))))
-    (c.in_ok-term.ensures ∙ ap (λ (s : List (ℕ × Tree)). apply s c.args.template.now) c.subst.ensures) c.in_ok-push.ensures.ok
+    (c.in_ok-answer.ensures.answer (world_of c.args.program.now ts c.args.limit) _)
 
 pub returns-then-search-limit : goal.returns-then-search-limit
 returns-then-search-limit c = λ ts.
