@@ -1,5 +1,5 @@
 -- Solutions of one key, taken from the last on.
-use Rattle.std.proofs.Common.{◌≡◌, ◌≢◌, Bool, true, false, not, List, [], ◌∷◌, ◌++◌, if◌then◌else◌, map, reverse, ap, refl, sym, ◌∙◌}
+use Rattle.std.proofs.Common.{◌≡◌, ◌≢◌, Bool, true, false, not, List, [], ◌∷◌, ◌++◌, if◌then◌else◌, map, reverse, ap, refl, sym, ◌∙◌, append_assoc, append-nil}
 use Rattle.std.proofs.lemmas.List.{reverse-append, reverse-reverse, map-append}
 use Rattle.std.specs.Ordering.{is_eq}
 use Rattle.term_core.specs.Tree.{Tree}
@@ -83,3 +83,37 @@ pub groups_end_none : (rest g : List Keyed) (gs : List (List Keyed)) (all : List
 groups_end_none rest g gs all e n h =
     ap (λ (x : List Keyed). begun (reverse x) (groups_of gs)) (sym n)
     ∙ ap (λ (x : List Keyed). joined_all x (begun (reverse g) (groups_of gs))) (sym e) ∙ h
+
+-- ---- what is made of a group's solutions, taken from the last on
+
+pub taken_more : {A B : Type 0} (f : B → A) (g g' : List B) (a : B) (b : A) (done done' all : List A) → g ≡ g' ++ a ∷ [] → b ≡ f a → done' ≡ done ++ b ∷ [] → done ++ map f (reverse g) ≡ all → done' ++ map f (reverse g') ≡ all
+taken_more f g g' a b done done' all e k d h =
+    ap (λ xs. xs ++ map f (reverse g')) (d ∙ ap (λ x. done ++ x ∷ []) k)
+    ∙ append_assoc done (f a ∷ []) (map f (reverse g'))
+    ∙ ap (λ xs. done ++ map f xs) (sym (ap reverse e ∙ reverse-append g' (a ∷ [])))
+    ∙ h
+
+pub taken_all : {A B : Type 0} (f : B → A) (g : List B) (done all : List A) → g ≡ [] → done ++ map f (reverse g) ≡ all → done ≡ all
+taken_all f g done all e h =
+    sym (append-nil done) ∙ ap (λ xs. done ++ map f (reverse xs)) (sym e) ∙ h
+
+pub not_none : {A : Type 0} (xs : List A) (x : A) → xs ++ x ∷ [] ≡ [] → ⊥
+not_none [] x e = cc
+not_none (y ∷ xs) x e = cc
+
+map_reverse : {A B : Type 0} (f : B → A) (xs : List B) → map f (reverse xs) ≡ reverse (map f xs)
+map_reverse f [] = refl
+map_reverse f (x ∷ xs) =
+    ap (map f) (reverse-append (x ∷ []) xs) ∙ map-append f (reverse xs) (x ∷ []) ∙ ap (λ ys. ys ++ f x ∷ []) (map_reverse f xs) ∙ sym (reverse-append (f x ∷ []) (map f xs))
+
+each_reversed : {A : Type 0} (f : List Keyed → A) (gs : List (List Keyed)) → map f (map reverse gs) ≡ map (λ g. f (reverse g)) gs
+each_reversed f [] = refl
+each_reversed f (g ∷ gs) = ap (λ ys. f (reverse g) ∷ ys) (each_reversed f gs)
+
+pub reversed_back : {A B : Type 0} (f : B → A) (xs ys : List B) → ys ≡ reverse xs → reverse (map f ys) ≡ map f xs
+reversed_back f xs ys e =
+    ap (λ zs. reverse (map f zs)) e ∙ ap reverse (map_reverse f xs) ∙ reverse-reverse (map f xs)
+
+pub of_groups : {A : Type 0} (f : List Keyed → A) (gs : List (List Keyed)) → map (λ g. f (reverse g)) (reverse gs) ≡ map f (groups_of gs)
+of_groups f gs =
+    map_reverse (λ g. f (reverse g)) gs ∙ ap reverse (sym (each_reversed f gs)) ∙ sym (map_reverse f (map reverse gs))

@@ -1,3 +1,4 @@
+pub mod Carets
 pub mod Choosing
 pub mod ClashLemmas
 pub mod Dropped

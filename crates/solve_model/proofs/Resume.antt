@@ -16,7 +16,8 @@ use Rattle.solve_model.specs.declared.search.Item as kept
 use Rattle.solve_model.specs.Goals.{Ready, Runs, Throws, ready}
 use Rattle.solve_model.specs.Run.{World, Ran, Used, End, Failed, Item, Goal, Place, Branch, Runner, after, ends, marked, Answered, in_order, some_left, at_failed, at_cut, called, performed, item_step, one_more, query, start, is_shown_outside}
 use Rattle.solve_model.specs.Run as run
-use Rattle.solve_model.specs.Search.{used_of, item_of, items_of, runs, resumed, at_frame, through, traced_after}
+use Rattle.solve_model.specs.Collecting.{offers_by}
+use Rattle.solve_model.specs.Search.{used_of, item_of, items_of, place_after, runs, resumed, at_frame, through, traced_after}
 use Rattle.solve_model.specs.Trace.{mark_shown, marks_shown, traced, end_shown}
 use Rattle.solve_model.proofs.RunLaws.{run_step, taken_before, taken_at_limit}
 
@@ -49,7 +50,7 @@ through_end w (frame.CutTo l) e u = refl
 through_end w (frame.Condition b more) e u = refl
 through_end w (frame.Catch c) e u = refl
 through_end w (frame.Collect c) e u =
-    ap (λ (cs : List Tree). at_frame w (frame.Collect (record c { copies = record c.copies { items = cs } })) e u) (append-nil c.copies.items)
+    ap (λ (cs : List Tree). run.at_gathered (runs w) (offers_by c.collection cs) (items_of c.rest.items.items) (place_after c) c.more e u) (append-nil c.copies.items)
 
 -- a mark that isn't gathered comes before what is left
 through_marked : (w : World) (f : Frame) (m : run.Mark) → is_shown_outside m ≡ true → (u : Used) (r : Ran) → through w f (marked m u r) ≡ marked m u (through w f r)

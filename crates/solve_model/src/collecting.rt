@@ -244,7 +244,14 @@ pub(crate) fn gathered_step(
             let now = try_offers(alloc, collector, stack)?;
             Ok(now)
         }
-        End::Thrown(ball, 0) => Ok(Now::Ends(End::Thrown(ball, catcher(&collector.rest.items)))),
+        End::Thrown(ball, level) => {
+            let level = if level == 0 {
+                catcher(&collector.rest.items)
+            } else {
+                level
+            };
+            Ok(Now::Ends(End::Thrown(ball, level)))
+        }
         end => Ok(Now::Ends(end)),
     }
 }

@@ -227,10 +227,12 @@ fn group_offers(
 ) -> Result<Offers, Memory>
     ensures { IfOk result (λ os. os ≡ map (group_offer_of (arranged_of arrangement) witness.now list.now) (groups_of groups.items)) }
 {
+    let mut groups = groups;
     let mut offers = Vec::new(alloc);
-    for group in groups {
+    while let Some(group) = groups.pop() {
         offers.push(group_offer(alloc, arrangement, witness, list, group)?)?;
     }
+    offers.reverse();
     Ok(Offers::several(offers))
 }
 
