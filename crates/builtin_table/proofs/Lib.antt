@@ -1,4 +1,5 @@
 pub mod Bits
+pub mod InOrder
 pub mod Powers
 pub mod Remainders
 pub mod Shifts

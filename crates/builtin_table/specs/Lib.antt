@@ -1,10 +1,12 @@
 pub mod Arithmetic
 pub mod Errors
+pub mod InOrder
 pub mod Lists
 pub mod Numbers
 pub mod Outcomes
 pub mod Outside
 pub mod Primitives
 pub mod Sorting
+pub mod Solutions
 pub mod Table
 pub mod Texts

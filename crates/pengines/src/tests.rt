@@ -311,6 +311,99 @@ const PROMPTS: [Case; 12] = [
     },
 ];
 
+const SOLUTIONS: [Case; 15] = [
+    Case {
+        name: "all solutions",
+        input: b"t(1). t(2).\n---\nask(findall(X,t(X),L))\n",
+        written: b"create\nsuccess([findall(_0,t(_0),[1,2])],false)\ndestroy\n",
+        ..DONE
+    },
+    Case {
+        name: "groups of one witness",
+        input: b"p(2,a). p(1,b). p(1,a).\n---\nask(setof(X,p(X,Y),L))\nnext\n",
+        written: b"create\nsuccess([setof(_0,p(_0,a),[1,2])],true)\nsuccess([setof(_0,p(_0,b),[1])],false)\ndestroy\n",
+        ..DONE
+    },
+    Case {
+        name: "a variable that isn't free",
+        input: b"p(2,a). p(1,b). p(1,a).\n---\nask(setof(X,Y^p(X,Y),L))\n",
+        written: b"create\nsuccess([setof(_0,_1^p(_0,_1),[1,2])],false)\ndestroy\n",
+        ..DONE
+    },
+    Case {
+        name: "no solution",
+        input: b"---\nask(findall(X,fail,L),[template(L)])\n",
+        written: b"create\nsuccess([[]],false)\ndestroy\n",
+        ..DONE
+    },
+    Case {
+        name: "a partial list",
+        input: b"t(1). t(2).\n---\nask(findall(X,t(X),[1|M]),[template(M)])\n",
+        written: b"create\nsuccess([[2]],false)\ndestroy\n",
+        ..DONE
+    },
+    Case {
+        name: "no list",
+        input: b"t(1). t(2).\n---\nask(findall(X,t(X),foo))\n",
+        written: b"create\nerror(error(type_error(list,foo),none))\ndestroy\n",
+        ..DONE
+    },
+    Case {
+        name: "an unbound goal",
+        input: b"t(1). t(2).\n---\nask(findall(X,Y,L))\n",
+        written: b"create\nerror(error(instantiation_error,none))\ndestroy\n",
+        ..DONE
+    },
+    Case {
+        name: "a cut stays inside",
+        input: b"t(1). t(2). c(X,L) :- t(X), findall(Y,(t(Y),!),L).\n---\nask(c(X,L))\nnext\n",
+        written: b"create\nsuccess([c(1,[1])],true)\nsuccess([c(2,[1])],false)\ndestroy\n",
+        ..DONE
+    },
+    Case {
+        name: "a ball goes outwards",
+        input: b"t(1). t(2).\n---\nask(catch(findall(X,(t(X),throw(b(X))),L),b(Z),true),[template(Z)])\n",
+        written: b"create\nsuccess([1],false)\ndestroy\n",
+        ..DONE
+    },
+    Case {
+        name: "steps inside count",
+        input: b"t(1). t(2).\n---\ncreate([limit(3)])\nask(findall(X,t(X),L))\n",
+        written: b"create\nlimit\ndestroy\n",
+        ..DONE
+    },
+    Case {
+        name: "no group",
+        input: b"t(1). t(2).\n---\nask(bagof(X,(t(X),fail),L))\n",
+        written: b"create\nfailure\ndestroy\n",
+        ..DONE
+    },
+    Case {
+        name: "witnesses that are variants",
+        input: b"v(f(A),1). v(g,2). v(f(B),3).\n---\nask(bagof(X,v(Y,X),L))\nnext\n",
+        written: b"create\nsuccess([bagof(_0,v(g,_0),[2])],true)\nsuccess([bagof(_0,v(f(_1),_0),[1,3])],false)\ndestroy\n",
+        ..DONE
+    },
+    Case {
+        name: "a group that isn't this list",
+        input: b"p(2,a). p(1,b). p(1,a).\n---\nask(bagof(X,p(X,Y),[1]))\n",
+        written: b"create\nsuccess([bagof(_0,p(_0,b),[1])],false)\ndestroy\n",
+        ..DONE
+    },
+    Case {
+        name: "no goal behind a caret",
+        input: b"t(1). t(2).\n---\nask(bagof(X,Y^1,L))\n",
+        written: b"create\nerror(error(type_error(callable,1),none))\ndestroy\n",
+        ..DONE
+    },
+    Case {
+        name: "copies have variables of their own",
+        input: b"t(1). t(2).\n---\nask(findall(Z,t(X),L),[template(L)])\n",
+        written: b"create\nsuccess([[_0,_1]],false)\ndestroy\n",
+        ..DONE
+    },
+];
+
 const REFUSALS: [Case; 19] = [
     Case {
         name: "other word",
@@ -501,6 +594,11 @@ fn control_and_arithmetic(rt: HostRuntime) -> Result<(), Fail> {
 #[test]
 fn prompts_and_outputs(rt: HostRuntime) -> Result<(), Fail> {
     run_cases(&rt, rt.alloc(), &PROMPTS)
+}
+
+#[test]
+fn all_solutions_are_gathered(rt: HostRuntime) -> Result<(), Fail> {
+    run_cases(&rt, rt.alloc(), &SOLUTIONS)
 }
 
 #[test]

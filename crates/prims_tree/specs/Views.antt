@@ -1,5 +1,5 @@
 -- The results that are left, as the definition has them.
-use Rattle.std.specs.Prelude.{ℕ, ◌+◌, pos, List, [], ◌∷◌, ◌++◌, length, Option, Some, None, nat_lt, if◌then◌else◌, refl}
+use Rattle.std.specs.Prelude.{ℕ, ◌+◌, pos, List, [], ◌∷◌, ◌++◌, length, Option, Some, None, nat_lt, if◌then◌else◌, refl, map, reverse}
 use Rattle.std.specs.Coded.{Coded, code_by, coded×, coded_ℕ, coded_list}
 use Rattle.term_core.specs.Tree.{Tree, integer}
 use Rattle.term_core.specs.Flat.{tree_code}
@@ -40,6 +40,7 @@ offers_of (left.Ready None) = []
 offers_of (left.Ready (Some o)) = offer_of o ∷ []
 offers_of (left.Splits s) = splits_of s
 offers_of (left.Parts p) = parts_of p
+offers_of (left.Several os) = reverse (map offer_of os.items)
 
 abbrev pub coded_offer : Coded Offer
 coded_offer =

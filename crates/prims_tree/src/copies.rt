@@ -61,7 +61,8 @@ pub(crate) fn term_variables(alloc: Global, term: &Term, list: &Term) -> Result<
     Ok(outcome)
 }
 
-fn variable_terms(alloc: Global, numbers: &[u64]) -> Result<Vec<Term>, Memory>
+/// The variables of these numbers.
+pub fn variable_terms(alloc: Global, numbers: &[u64]) -> Result<Vec<Term>, Memory>
     ensures { IfOk result (λ v. v.items ≡ map variable numbers.now) }
 {
     let mut variables = Vec::new(alloc);

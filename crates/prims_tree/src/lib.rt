@@ -26,5 +26,7 @@ mod univ;
 mod values;
 
 pub use by_name::call;
+pub use copies::variable_terms;
+pub use lists::{list_of, may_be_list};
 pub use offer::{Offer, Offers};
 pub use outcome::Outcome;

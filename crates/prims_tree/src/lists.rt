@@ -6,6 +6,7 @@ ghost use Rattle.term_core.specs.Parts.{symbol_of};
 ghost use Rattle.builtin_table.specs.Lists.{elements, rest as rest_of, is_list as is_list_tree, is_empty_list, list_of as list_of_trees, needed_list as needed_list_of, bound as bound_of, needed_values as needed_values_of};
 ghost use Rattle.builtin_table.specs.Primitives.{is_variable as is_variable_tree, skip_list as skip_list_of};
 ghost use Rattle.prims_tree.specs.Outcomes.{outcome_of};
+ghost use Rattle.builtin_table.specs.Solutions.{may_be_list as may_be_list_tree};
 ghost use Rattle.prims_tree.specs.Cells.{is_cell_node};
 
 use crate::kinds::is_variable;
@@ -68,8 +69,20 @@ pub(crate) fn is_list(alloc: Global, term: &Term) -> Result<bool, Memory>
     Ok(is_empty(&rest))
 }
 
-// The list of these elements.
-pub(crate) fn list_of(alloc: Global, elements: &[Term]) -> Result<Term, Memory>
+/// Whether the term is a variable, or a list that is proper or ends in a variable.
+pub fn may_be_list(alloc: Global, term: &Term) -> Result<bool, Memory>
+    ensures { IfOk result (λ b. b ≡ may_be_list_tree term.now) }
+{
+    let (_, rest) = list_parts(alloc, term)?;
+    Ok(match rest.symbol() {
+        Node::Var(_) => true,
+        Node::Atom(name) => name.as_str() == "[]",
+        Node::Int(_) | Node::Comp(_, _) => false,
+    })
+}
+
+/// The list of these elements: cells of an element and a rest, up to the atom `[]`.
+pub fn list_of(alloc: Global, elements: &[Term]) -> Result<Term, Memory>
     ensures { IfOk result (λ t. t ≡ list_of_trees elements.now) }
 {
     let mut nodes = Vec::new(alloc);

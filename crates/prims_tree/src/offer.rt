@@ -1,5 +1,5 @@
 // The results of a primitive.
-ghost use Rattle.std.specs.Prelude.{◌≡◌, [], ◌∷◌, IfOk, OnErr, MatchOption};
+ghost use Rattle.std.specs.Prelude.{◌≡◌, [], ◌∷◌, map, reverse, IfOk, OnErr, MatchOption};
 ghost use Rattle.builtin_table.specs.Texts.{splits_from, parts_from};
 ghost use Rattle.prims_tree.specs.Views.{offer_of, part_terms_of};
 
@@ -18,10 +18,12 @@ pub struct Offer {
     pub fresh: u64,
 }
 
-// What is left to give: one result or none, or the parts of a text.
+// What is left to give: one result or none, some that were made before, or the parts of a text.
 #[derive(Debug, Drop)]
 pub(crate) enum Left {
     Ready(Option<Offer>),
+    // the first of them last
+    Several(Vec<Offer>),
     Splits(Splits),
     Parts(Parts),
 }
@@ -92,6 +94,15 @@ impl Offers {
         }
     }
 
+    /// These results, the first of them last.
+    pub fn several(offers: Vec<Offer>) -> Offers
+        ensures { result ≡ reverse (map offer_of offers.items) }
+    {
+        Offers {
+            left: Left::Several(offers),
+        }
+    }
+
     /// Takes the next result; `None` exactly where none is left. After `Memory` the results are as before.
     pub fn next(&mut self, alloc: Global) -> Result<Option<Offer>, Memory>
         ensures ok { IfOk result (λ r.
@@ -100,8 +111,16 @@ impl Offers {
     {
         match &mut self.left {
             Left::Ready(offer) => Ok(offer.take()),
+            Left::Several(offers) => Ok(next_of(offers)),
             Left::Splits(splits) => splits.next(alloc),
             Left::Parts(parts) => parts.next(alloc),
         }
     }
+}
+
+// Takes the last of these.
+fn next_of(offers: &mut Vec<Offer>) -> Option<Offer>
+    ensures { MatchOption result ((reverse (map offer_of offers.old.items) ≡ []) × (reverse (map offer_of offers.new.items) ≡ [])) (λ o. reverse (map offer_of offers.old.items) ≡ offer_of o ∷ reverse (map offer_of offers.new.items)) }
+{
+    offers.pop()
 }

@@ -12,12 +12,12 @@ use Rattle.solve_model.specs.declared.search.Choice.{Choice}
 use Rattle.solve_model.specs.declared.search.Frame.{Frame}
 use Rattle.solve_model.specs.declared.search.Frame.TheVariants as frame
 use Rattle.solve_model.specs.Run.{World, Bindings, Ran, Used, Failed, Item, Place, Branch, after, ends, at_failed, in_order, body_branch, offer_branch, offered}
-use Rattle.solve_model.specs.Search.{IsMatch, FirstMatch, place_of, items_of, alternatives, chosen, found_branch, taken_results, runs, resumed, at_frame}
+use Rattle.solve_model.specs.Search.{IsMatch, FirstMatch, place_of, items_of, alternatives, chosen, found_branch, taken_results, runs, resumed, through}
 use Rattle.solve_model.proofs.Resume.{no_alternative, last_alternative, first_alternative}
 
 -- what a pushed frame does
 abbrev pub IsPushed : World → (old new : List Frame) → Frame → Type 0
-IsPushed w old new f = (r : Ran) → resumed w new r ≡ resumed w old (after r (at_frame w f))
+IsPushed w old new f = (r : Ran) → resumed w new r ≡ resumed w old (through w f r)
 
 -- runs of the same items at the same place
 pub same_run : (w : World) (is js : List Item) (p q : Place) (o : Bool) (u : Used) → is ≡ js → p ≡ q → runs w is p o u ≡ runs w js q o u

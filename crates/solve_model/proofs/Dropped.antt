@@ -9,7 +9,7 @@ use Rattle.solve_model.specs.declared.search.Frame.{Frame}
 use Rattle.solve_model.specs.declared.search.Frame.TheVariants as frame
 use Rattle.solve_model.specs.Dropping.{is_above}
 use Rattle.solve_model.specs.Run.{World, Ran, Used, End, Failed, Cut, Thrown, Waits, Spent, Outside, after, ends, at_cut, at_condition, cut_to}
-use Rattle.solve_model.specs.Search.{resumed, at_frame, runs_branch}
+use Rattle.solve_model.specs.Search.{resumed, at_frame, runs_branch, through}
 use Rattle.solve_model.proofs.Resume.{resumed_push}
 
 -- what is done at an end lets pass each end that there is after a cut to the level
@@ -85,11 +85,27 @@ frame_passes w l (frame.Condition b more) h = record {
   outside = λ i u. refl;
 }
 frame_passes w l (frame.Catch c) h = absurd (false≢true h)
+frame_passes w l (frame.Collect c) h = absurd (false≢true h)
+
+-- such a frame does nothing after the cut
+above_passes : (w : World) (l : ℕ) (f : Frame) (r : Ran) → is_above l f ≡ true → through w f (after r (cut_to l)) ≡ after r (cut_to l)
+above_passes w l (frame.Clauses c) r h =
+    after_cut l (at_frame w (frame.Clauses c)) (frame_passes w l (frame.Clauses c) h) r
+above_passes w l (frame.Results f q) r h =
+    after_cut l (at_frame w (frame.Results f q)) (frame_passes w l (frame.Results f q) h) r
+above_passes w l (frame.Other b more) r h =
+    after_cut l (at_frame w (frame.Other b more)) (frame_passes w l (frame.Other b more) h) r
+above_passes w l (frame.Cut d) r h = after_cut l (at_frame w (frame.Cut d)) (frame_passes w l (frame.Cut d) h) r
+above_passes w l (frame.CutTo d) r h = after_cut l (at_frame w (frame.CutTo d)) (frame_passes w l (frame.CutTo d) h) r
+above_passes w l (frame.Condition b more) r h =
+    after_cut l (at_frame w (frame.Condition b more)) (frame_passes w l (frame.Condition b more) h) r
+above_passes w l (frame.Catch c) r h = absurd (false≢true h)
+above_passes w l (frame.Collect c) r h = absurd (false≢true h)
 
 -- a frame above the level may be dropped
 pub dropped : (w : World) (l : ℕ) (fs gs : List Frame) (f : Frame) (r : Ran) → fs ≡ gs ++ f ∷ [] → is_above l f ≡ true → resumed w gs (after r (cut_to l)) ≡ resumed w fs (after r (cut_to l))
 dropped w l fs gs f r e h =
-    sym (resumed_push w gs fs f (after r (cut_to l)) e ∙ ap (resumed w gs) (after_cut l (at_frame w f) (frame_passes w l f h) r))
+    sym (resumed_push w gs fs f (after r (cut_to l)) e ∙ ap (resumed w gs) (above_passes w l f r h))
 
 -- after a cut to a condition's level its other branch is never run
 pub condition_settled : (w : World) (l : ℕ) (b : Branch) (more : Bool) (r : Ran) → b.place.level ≡ l → after (after r (cut_to l)) (at_frame w (frame.Cut l)) ≡ after (after r (cut_to l)) (at_frame w (frame.Condition b more))

@@ -6,7 +6,7 @@ use Rattle.std.proofs.lemmas.Option.{slice_get_cases}
 use Rattle.term_core.specs.Tree.{Tree}
 use Rattle.term_core.specs.Variables.{numbered}
 use Rattle.solve_model.specs.Goals.{Ready, Runs, Throws, ready}
-use Rattle.solve_model.specs.Run.{World, Item, Goal, End, Failed, Cut, Thrown, Waits, Spent, Outside, Mark, Told, Asked, Place, Used, Ran, Runner, ends, marked, after, at_cut, one_more, one_reply, if_replied, taken, run, start, unused, query}
+use Rattle.solve_model.specs.Run.{World, Item, Goal, End, Failed, Cut, Thrown, Waits, Spent, Outside, Mark, Answered, Told, Asked, is_shown_outside, without_answers, Place, Used, Ran, Runner, ends, marked, after, at_cut, one_more, one_reply, if_replied, taken, run, start, unused, query}
 use Rattle.solve_model.specs.Laws.{is_prompt, prompts, AsksOneMore, AsksForEach, PromptsTakeReplies}
 use Rattle.solve_model.proofs.Relate.{PassesStops, NotWaits, IsKept, item_kept, cut_kept, cut_passes}
 use Rattle.solve_model.proofs.RunLaws.{taken_before, taken_at_limit}
@@ -74,10 +74,28 @@ asked_counted n rs q u go e h g =
       | inr x ↦ rw x.1 (record { within = g; asked = omega arith; all = λ y. omega (arith, e, x.0, g) })
     ]
 
+-- ---- the marks that a run inside another shows
+
+abbrev is_outer : ℕ × Mark → Bool
+is_outer m = is_shown_outside m.1
+
+prompts-outer : (ms : Marks) → prompts (filter is_outer ms) ≡ prompts ms
+prompts-outer [] = refl
+prompts-outer (x ∷ xs) = by x.0 x.1 (prompts-outer xs)
+  where
+    by : (k : ℕ) (m : Mark) → prompts (filter is_outer xs) ≡ prompts xs → prompts (filter is_outer ((k, m) ∷ xs)) ≡ prompts ((k, m) ∷ xs)
+    by k (Answered s o) h = h
+    by k (Told t) h = h
+    by k (Asked t) h = ap suc h
+
+outer_counted : (n : ℕ) (u : Used) (a : Ran) → IsCounted n u a → IsCounted n u (without_answers a)
+outer_counted n u a h = record { within = h.within; asked = omega (arith, prompts-outer a.marks, h.asked); all = h.all }
+
 counted_kept : (w : World) (n : ℕ) → n ≡ length w.replies → IsKept (λ u a b. Counted n u a) w w
 counted_kept w n e = record {
   at_end = λ x y u. ends_counted n x y u;
   at_after = λ u a a' k k' h ps ps' step g. after_end n u a.marks a.used a.end k (h g) ps (λ x. step a.end x a.used);
+  at_answers = λ u a a' k k' h ps ps' step g. after_end n u (without_answers a).marks a.used a.end (k a.marks) (outer_counted n u a (h g)) (ps a.marks) (λ x. step a.marks a.end x a.used);
   at_told = λ t u a a' h. told_counted n t u a h;
   at_asked = λ q u go go' h. asked_counted n w.replies q u go e h;
   same_clauses = refl;

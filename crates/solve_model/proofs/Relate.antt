@@ -1,15 +1,16 @@
 -- If two runners are related, so are the steps over them. One induction over the table of steps serves every law about runs.
-use Rattle.std.proofs.Common.{◌≡◌, ℕ, suc, Bool, true, false, ◌||◌, ◌==◌, List, [], ◌∷◌, map, if◌then◌else◌, Option, Some, None, slice_get, refl, subst, sym}
+use Rattle.std.proofs.Common.{◌≡◌, ℕ, suc, Bool, true, false, ◌||◌, ◌==◌, List, [], ◌∷◌, map, if◌then◌else◌, Option, Some, None, slice_get, refl, subst, sym, ◌++◌}
 use Rattle.term_core.specs.declared.pi.Pi.{Pi}
 use Rattle.term_core.specs.Tree.{Tree}
 use Rattle.term_core.specs.Parts.{arguments_of}
 use Rattle.term_core.specs.Substitution.{apply}
 use Rattle.term_core.specs.Unifier.{mgu}
 use Rattle.program.specs.Clauses.{Clause, clauses_of}
-use Rattle.solve_model.specs.Goals.{Row, Succeeds, Fails, Cuts, Both, Either, IfElse, Test, Differ, Call, Catch, Throw, Output, Input, Predicate, row_of, Ready, Runs, Throws, ready, with_arguments, unknown_predicate}
+use Rattle.solve_model.specs.Goals.{Row, Succeeds, Fails, Cuts, Both, Either, IfElse, Test, Differ, Call, Catch, Throw, Output, Input, Predicate, row_of, Ready, Runs, Throws, ready, with_arguments, unknown_predicate, FindAll, BagOf, SetOf}
 use Rattle.builtin_table.specs.Outside.{reaches_outside}
-use Rattle.builtin_table.specs.Primitives.{Outcome, Offers, Ball, Unknown}
-use Rattle.solve_model.specs.Run.{World, Bindings, Item, Goal, Commit, ExitCatch, End, Failed, Cut, Thrown, Waits, Spent, Outside, Place, Used, Ran, Runner, Branch, ends, after, at_failed, at_cut, at_condition, at_catch, cut_to, in_order, if_ready, Told, Asked, marked, one_reply, if_replied, offered, reply_offer, throws, undefined, performed, called, locally, branched, differs, recovered_by, caught, goal_step, item_step, some_left}
+use Rattle.builtin_table.specs.Primitives.{Outcome, Offers, Ball, Unknown, Offer}
+use Rattle.solve_model.specs.Run.{World, Bindings, Item, Goal, Commit, ExitCatch, End, Failed, Cut, Thrown, Waits, Spent, Outside, Place, Used, Ran, Runner, Branch, ends, after, at_failed, at_cut, at_condition, at_catch, cut_to, in_order, if_ready, Told, Asked, marked, one_reply, if_replied, offered, reply_offer, throws, undefined, performed, called, locally, branched, differs, recovered_by, caught, goal_step, item_step, some_left, Mark, without_answers, at_gathered, solutions, gathered, collected, found_all, all_grouped}
+use Rattle.builtin_table.specs.Solutions.{copies, after_copies, may_be_list, findall_offers, bagof_offers, setof_offers, behind_carets, witness, witnessed}
 
 -- what is done at an end passes on a run that stopped for want of steps or of a reply
 pub record PassesStops (k : End → Used → Ran) : Type 0 where
@@ -32,6 +33,7 @@ pub record IsKept (R : Used → Ran → Ran → Type 0) (w w' : World) : Type 0 
   pub at_told : (t : Tree) (u : Used) (a a' : Ran) → R u a a' → R u (marked (Told t) u a) (marked (Told t) u a')
   -- a prompt, and what is done with a reply
   pub at_asked : (q : Tree) (u : Used) (go go' : Tree → Ran) → ((t : Tree) → R (one_reply u) (go t) (go' t)) → R u (marked (Asked q) u (if_replied (slice_get w.replies u.replies) u go)) (marked (Asked q) u (if_replied (slice_get w'.replies u.replies) u go'))
+  pub at_answers : (u : Used) (a a' : Ran) (k k' : List (ℕ × Mark) → End → Used → Ran) → R u a a' → ((ms : List (ℕ × Mark)) → PassesStops (k ms)) → ((ms : List (ℕ × Mark)) → PassesStops (k' ms)) → ((ms : List (ℕ × Mark)) (e : End) → NotWaits e → (v : Used) → R v (k ms e v) (k' ms e v)) → R u (after (without_answers a) (k a.marks)) (after (without_answers a') (k' a'.marks))
   pub same_clauses : w'.clauses ≡ w.clauses
   pub same_primitive : w'.primitive ≡ w.primitive
 
@@ -49,6 +51,9 @@ condition_passes d f = record { waits = λ u. refl; spent = λ u. refl }
 
 catch_passes : (d : ℕ) (f : Tree → Used → Ran) → PassesStops (at_catch d f)
 catch_passes d f = record { waits = λ u. refl; spent = λ u. refl }
+
+gathered_passes : (r : Runner) (os : List Offer) (is : List Item) (p : Place) (o : Bool) → PassesStops (at_gathered r os is p o)
+gathered_passes r os is p o = record { waits = λ u. refl; spent = λ u. refl }
 
 module _ (R : Used → Ran → Ran → Type 0) (w w' : World) (kept : IsKept R w w') where
   failed_kept : (f f' : Used → Ran) → ((v : Used) → R v (f v) (f' v)) → (e : End) → NotWaits e → (v : Used) → R v (at_failed f e v) (at_failed f' e v)
@@ -153,6 +158,32 @@ module _ (R : Used → Ran → Ran → Type 0) (w w' : World) (kept : IsKept R w
     caught_kept g c t is p o u =
         kept.at_after u _ _ _ _ (related _ _ o u) (catch_passes _ _) (catch_passes _ _) (catch_kept _ _ _ (λ b v. recovered_kept _ b t is p o v))
 
+    at_gathered_kept : (os : List Offer) (is : List Item) (p : Place) (o : Bool) (e : End) → NotWaits e → (v : Used) → R v (at_gathered r os is p o e v) (at_gathered r' os is p o e v)
+    at_gathered_kept os is p o Failed x v = in_order_kept _ o v
+    at_gathered_kept os is p o (Cut l) x v = kept.at_end (Cut l) tt v
+    at_gathered_kept os is p o (Thrown b l) x v = kept.at_end _ tt v
+    at_gathered_kept os is p o Waits x v = absurd x
+    at_gathered_kept os is p o Spent x v = kept.at_end Spent tt v
+    at_gathered_kept os is p o (Outside i) x v = kept.at_end (Outside i) tt v
+
+    gathered_kept : (t : Tree) (f : List Tree → List Offer) (cs : List Tree) (n : ℕ) (is : List Item) (p : Place) (o : Bool) (u : Used) (a a' : Ran) → R u a a' → R u (gathered r t f cs n is p o a) (gathered r' t f cs n is p o a')
+    gathered_kept t f cs n is p o u a a' h =
+        let os : List (ℕ × Mark) → List Offer = λ ms. f (cs ++ copies n (solutions t ms)) in
+        let q : List (ℕ × Mark) → Place = λ ms. record p { next = after_copies n (solutions t ms) } in
+        kept.at_answers u a a' (λ ms. at_gathered r (os ms) is (q ms) o) (λ ms. at_gathered r' (os ms) is (q ms) o) h
+        (λ ms. gathered_passes r (os ms) is (q ms) o) (λ ms. gathered_passes r' (os ms) is (q ms) o) (λ ms. at_gathered_kept (os ms) is (q ms) o)
+
+    collected_kept : (g t : Tree) (f : List Tree → List Offer) (is : List Item) (p : Place) (o : Bool) (u : Used) → R u (collected r g t f is p o u) (collected r' g t f is p o u)
+    collected_kept g t f is p o u =
+        if_ready_kept (ready g) is u _ _ (λ h. gathered_kept t f [] p.next is p o u _ _ (kept.at_after u _ _ _ _ (related (Goal h 1 false ∷ []) (record p { level = 2 }) false u) (cut_passes 1) (cut_passes 1) (cut_kept 1)))
+
+    found_all_kept : (b : Bool) (t g l : Tree) (is : List Item) (p : Place) (o : Bool) (u : Used) → R u (found_all r b t g l is p o u) (found_all r' b t g l is p o u)
+    found_all_kept true t g l is p o u = collected_kept (apply p.subst g) t (findall_offers l) is p o u
+    found_all_kept false t g l is p o u = kept.at_end _ tt u
+
+    all_grouped_kept : (f : Tree → Tree → List Tree → List Offer) (t g x l : Tree) (is : List Item) (p : Place) (o : Bool) (u : Used) → R u (all_grouped r f t g x l is p o u) (all_grouped r' f t g x l is p o u)
+    all_grouped_kept f t g x l is p o u = collected_kept (behind_carets g) (witnessed x t) (f x l) is p o u
+
     goal_kept : (x : Row) (l : ℕ) (cut : Bool) (is : List Item) (p : Place) (o : Bool) (u : Used) → R u (goal_step w r x l cut is p o u) (goal_step w' r' x l cut is p o u)
     unfolding goal_step
     goal_kept Succeeds l cut is p o u = related is p o u
@@ -173,6 +204,11 @@ module _ (R : Used → Ran → Ran → Type 0) (w w' : World) (kept : IsKept R w
     goal_kept (Output t) l cut is p o u = kept.at_told (apply p.subst t) u _ _ (related is p o u)
     goal_kept (Input q t) l cut is p o u =
         kept.at_asked (apply p.subst q) u _ _ (λ b. in_order_kept (offered (reply_offer b t p.next ∷ []) is p) o (one_reply u))
+    goal_kept (FindAll t g m) l cut is p o u = found_all_kept (may_be_list (apply p.subst m)) t g m is p o u
+    goal_kept (BagOf t g m) l cut is p o u =
+        all_grouped_kept bagof_offers t (apply p.subst g) (witness (apply p.subst t) (apply p.subst g)) m is p o u
+    goal_kept (SetOf t g m) l cut is p o u =
+        all_grouped_kept setof_offers t (apply p.subst g) (witness (apply p.subst t) (apply p.subst g)) m is p o u
     goal_kept (Predicate i t) l cut is p o u =
         subst (λ (cs : List Clause). R u (called w r (clauses_of i w.clauses) i t is p o u) (called w' r' (clauses_of i cs) i t is p o u)) (sym kept.same_clauses) (called_kept (clauses_of i w.clauses) i t is p o u)
 

@@ -14,9 +14,10 @@ use Rattle.solve_model.specs.declared.search.Frame.{Frame}
 use Rattle.solve_model.specs.declared.search.Frame.TheVariants as frame
 use Rattle.solve_model.specs.declared.search.Item as kept
 use Rattle.solve_model.specs.Goals.{Ready, Runs, Throws, ready}
-use Rattle.solve_model.specs.Run.{World, Ran, Used, End, Failed, Item, Goal, Place, Branch, Runner, after, ends, marked, Answered, in_order, some_left, at_failed, at_cut, called, performed, item_step, one_more, query, start}
+use Rattle.solve_model.specs.Run.{World, Ran, Used, End, Failed, Item, Goal, Place, Branch, Runner, after, ends, marked, Answered, in_order, some_left, at_failed, at_cut, called, performed, item_step, one_more, query, start, is_shown_outside}
 use Rattle.solve_model.specs.Run as run
-use Rattle.solve_model.specs.Search.{used_of, item_of, items_of, runs, resumed, at_frame, traced_after}
+use Rattle.solve_model.specs.Collecting.{offers_by}
+use Rattle.solve_model.specs.Search.{used_of, item_of, items_of, place_after, runs, resumed, at_frame, through, traced_after}
 use Rattle.solve_model.specs.Trace.{mark_shown, marks_shown, traced, end_shown}
 use Rattle.solve_model.proofs.RunLaws.{run_step, taken_before, taken_at_limit}
 
@@ -31,19 +32,43 @@ items_pushed is js i e = ap items_of e ∙ items_push is i
 
 -- ---- frames
 
-push_one : (w : World) (fs : List Frame) (f : Frame) (r : Ran) → resumed w (fs ++ f ∷ []) r ≡ resumed w fs (after r (at_frame w f))
+push_one : (w : World) (fs : List Frame) (f : Frame) (r : Ran) → resumed w (fs ++ f ∷ []) r ≡ resumed w fs (through w f r)
 unfolding resumed
 push_one w [] f r = refl
-push_one w (g ∷ fs) f r = ap (λ (x : Ran). after x (at_frame w g)) (push_one w fs f r)
+push_one w (g ∷ fs) f r = ap (through w g) (push_one w fs f r)
 
-pub resumed_push : (w : World) (fs gs : List Frame) (f : Frame) (r : Ran) → gs ≡ fs ++ f ∷ [] → resumed w gs r ≡ resumed w fs (after r (at_frame w f))
+pub resumed_push : (w : World) (fs gs : List Frame) (f : Frame) (r : Ran) → gs ≡ fs ++ f ∷ [] → resumed w gs r ≡ resumed w fs (through w f r)
 resumed_push w fs gs f r e = ap (λ (hs : List Frame). resumed w hs r) e ∙ push_one w fs f r
 
--- a mark comes before what is left
-pub resumed_marked : (w : World) (fs : List Frame) (m : run.Mark) (u : Used) (r : Ran) → resumed w fs (marked m u r) ≡ marked m u (resumed w fs r)
+-- a frame lets an end pass as it acts there
+pub through_end : (w : World) (f : Frame) (e : End) (u : Used) → through w f (ends e u) ≡ at_frame w f e u
+through_end w (frame.Clauses c) e u = refl
+through_end w (frame.Results f r) e u = refl
+through_end w (frame.Other b more) e u = refl
+through_end w (frame.Cut l) e u = refl
+through_end w (frame.CutTo l) e u = refl
+through_end w (frame.Condition b more) e u = refl
+through_end w (frame.Catch c) e u = refl
+through_end w (frame.Collect c) e u =
+    ap (λ (cs : List Tree). run.at_gathered (runs w) (offers_by c.collection cs) (items_of c.rest.items.items) (place_after c) c.more e u) (append-nil c.copies.items)
+
+-- a mark that isn't gathered comes before what is left
+through_marked : (w : World) (f : Frame) (m : run.Mark) → is_shown_outside m ≡ true → (u : Used) (r : Ran) → through w f (marked m u r) ≡ marked m u (through w f r)
+through_marked w (frame.Clauses c) m h u r = refl
+through_marked w (frame.Results f q) m h u r = refl
+through_marked w (frame.Other b more) m h u r = refl
+through_marked w (frame.Cut l) m h u r = refl
+through_marked w (frame.CutTo l) m h u r = refl
+through_marked w (frame.Condition b more) m h u r = refl
+through_marked w (frame.Catch c) m h u r = refl
+through_marked w (frame.Collect c) (Answered s o) h u r = cc
+through_marked w (frame.Collect c) (run.Told t) h u r = refl
+through_marked w (frame.Collect c) (run.Asked t) h u r = refl
+
+pub resumed_marked : (w : World) (fs : List Frame) (m : run.Mark) → is_shown_outside m ≡ true → (u : Used) (r : Ran) → resumed w fs (marked m u r) ≡ marked m u (resumed w fs r)
 unfolding resumed
-resumed_marked w [] m u r = refl
-resumed_marked w (f ∷ fs) m u r = ap (λ (x : Ran). after x (at_frame w f)) (resumed_marked w fs m u r)
+resumed_marked w [] m h u r = refl
+resumed_marked w (f ∷ fs) m h u r = ap (through w f) (resumed_marked w fs m h u r) ∙ through_marked w f m h u (resumed w fs r)
 
 -- ---- alternatives
 
@@ -113,21 +138,20 @@ run_of_none w p o u = refl
 
 -- ---- the trace
 
-traced_marked : (t : Tree) (ms : List (ℕ × TraceMark)) (m : run.Mark) (u : Used) (r : Ran) → traced_after t (ms ++ (u.steps, mark_shown t m) ∷ []) r ≡ traced_after t ms (marked m u r)
+pub traced_marked : (t : Tree) (ms : List (ℕ × TraceMark)) (m : run.Mark) (u : Used) (r : Ran) → traced_after t (ms ++ (u.steps, mark_shown t m) ∷ []) r ≡ traced_after t ms (marked m u r)
 traced_marked t ms m u r =
     ap (λ (l : List (ℕ × TraceMark)). let x : Trace = record { marks = l; steps = r.used.steps; replies_used = r.used.replies; end = end_shown r.end } in x)
     (append_assoc ms ((u.steps, mark_shown t m) ∷ []) (marks_shown t r.marks))
 
 -- an answer is a mark, and the branch has failed
-pub answered : (w : World) (t : Tree) (fs : List Frame) (ms ns : List (ℕ × TraceMark)) (is : List Item) (p : Place) (o : Bool) (u : Used) (a : Tree) → is ≡ [] → a ≡ apply p.subst t → ns ≡ ms ++ (u.steps, shown.Answer a o) ∷ [] →
-    traced_after t ns (resumed w fs (ends Failed u)) ≡ traced_after t ms (resumed w fs (runs w is p o u))
-answered w t fs ms ns is p o u a e d h =
-    rw (h, d, e, run_of_none w p o u, resumed_marked w fs (Answered p.subst o) u (ends Failed u))
-    (traced_marked t ms (Answered p.subst o) u (resumed w fs (ends Failed u)))
+pub answered : (w : World) (t : Tree) (fs : List Frame) (ms : List (ℕ × TraceMark)) (is : List Item) (p : Place) (o : Bool) (u : Used) (x : Trace) → is ≡ [] → x ≡ traced_after t ms (resumed w fs (marked (Answered p.subst o) u (ends Failed u))) →
+    x ≡ traced_after t ms (resumed w fs (runs w is p o u))
+answered w t fs ms is p o u x e d =
+    rw (e, run_of_none w p o u) d
 
 -- a mark that is shown, and then the rest
-pub marked_shown : (w : World) (t : Tree) (fs : List Frame) (ms ns : List (ℕ × TraceMark)) (m : run.Mark) (u : Used) (r : Ran) → ns ≡ ms ++ (u.steps, mark_shown t m) ∷ [] → traced_after t ns (resumed w fs r) ≡ traced_after t ms (resumed w fs (marked m u r))
-marked_shown w t fs ms ns m u r h = rw (h, resumed_marked w fs m u r) (traced_marked t ms m u (resumed w fs r))
+pub marked_shown : (w : World) (t : Tree) (fs : List Frame) (ms ns : List (ℕ × TraceMark)) (m : run.Mark) → is_shown_outside m ≡ true → (u : Used) (r : Ran) → ns ≡ ms ++ (u.steps, mark_shown t m) ∷ [] → traced_after t ns (resumed w fs r) ≡ traced_after t ms (resumed w fs (marked m u r))
+marked_shown w t fs ms ns m o u r h = rw (h, resumed_marked w fs m o u r) (traced_marked t ms m u (resumed w fs r))
 
 -- ---- the whole search
 
@@ -153,7 +177,8 @@ over w t fs ms r d = ap (λ (gs : List Frame). traced_after t ms (resumed w gs r
 
 -- a frame is taken off, and does what it does at this end
 pub popped : (w : World) (t : Tree) (fs gs : List Frame) (f : Frame) (ms : List (ℕ × TraceMark)) (e : End) (u : Used) (r : Ran) → fs ≡ gs ++ f ∷ [] → r ≡ resumed w gs (at_frame w f e u) → traced_after t ms r ≡ traced_after t ms (resumed w fs (ends e u))
-popped w t fs gs f ms e u r d h = ap (traced_after t ms) (h ∙ sym (resumed_push w gs fs f (ends e u) d))
+popped w t fs gs f ms e u r d h =
+    ap (traced_after t ms) (h ∙ sym (resumed_push w gs fs f (ends e u) d ∙ ap (resumed w gs) (through_end w f e u)))
 
 pub nothing_kept : {A : Type 0} (xs : List A) (n : ℕ) → n ≡ 0 → n ≡ length xs → xs ≡ []
 nothing_kept [] n e h = refl

@@ -1,11 +1,11 @@
 -- The laws of runs: the depth doesn't matter where it is enough, a run of some items is the step over the run itself, and more steps or replies lengthen the marks.
-use Rattle.std.proofs.Common.{◌≡◌, ℕ, zero, suc, ◌+◌, ◌≤◌, ◌<◌, Bool, true, false, cond, List, [], ◌∷◌, ◌++◌, nat_le, slice_get, Option, Some, None, refl, ap, arith, ◌⊎◌, inl, inr, subst, sym, append_assoc, append-nil, ◌∙◌}
+use Rattle.std.proofs.Common.{◌≡◌, ℕ, zero, suc, ◌+◌, ◌≤◌, ◌<◌, Bool, true, false, cond, List, [], ◌∷◌, ◌++◌, nat_le, slice_get, Option, Some, None, refl, ap, arith, ◌⊎◌, inl, inr, subst, sym, append_assoc, append-nil, ◌∙◌, filter}
 use Rattle.std.proofs.lemmas.Bool.{lt-ltb, le-ltb, le-leb, lt-leb, cases_lt}
 use Rattle.std.proofs.lemmas.List.Elements.{filter-append}
 use Rattle.term_core.specs.Tree.{Tree}
 use Rattle.term_core.specs.Variables.{numbered}
 use Rattle.solve_model.specs.Goals.{Ready, Runs, Throws, ready}
-use Rattle.solve_model.specs.Run.{World, Item, Goal, End, Failed, Thrown, Waits, Spent, Mark, Told, Asked, marked, one_reply, if_replied, Place, Used, Ran, Runner, ends, after, at_cut, item_step, one_more, taken, run, start, unused, query}
+use Rattle.solve_model.specs.Run.{World, Item, Goal, End, Failed, Thrown, Waits, Spent, Mark, Told, Asked, marked, one_reply, if_replied, Place, Used, Ran, Runner, ends, after, at_cut, item_step, one_more, taken, run, start, unused, query, is_shown_outside, without_answers}
 use Rattle.solve_model.specs.Laws.{Begins, IsStopped, widened, MoreOnlyAdds, marks_within, MarksStand}
 use Rattle.solve_model.proofs.Relate.{PassesStops, NotWaits, IsKept, item_kept, cut_kept, cut_passes}
 
@@ -78,12 +78,42 @@ if_replied_timed : (n : ℕ) (r : Option Tree) (u : Used) (go : Tree → Ran) �
 if_replied_timed n (Some t) u go h = replied_timed n u (go t) (h t)
 if_replied_timed n None u go h = ends_timed n Waits u
 
+-- ---- the marks that a run inside another shows
+
+abbrev is_outer : ℕ × Mark → Bool
+is_outer m = is_shown_outside m.1
+
+from_outer : (m : ℕ) (xs : Marks) → AllFrom m xs → AllFrom m (filter is_outer xs)
+from_outer m [] h = tt
+from_outer m (x ∷ xs) h = by (from_outer m xs h.1) (is_outer x)
+  where
+    by : AllFrom m (filter is_outer xs) → (b : Bool) → AllFrom m (cond b (x ∷ filter is_outer xs) (filter is_outer xs))
+    by g true = (h.0, g)
+    by g false = g
+
+up_to_outer : (n : ℕ) (xs : Marks) → AllUpTo n xs → AllUpTo n (filter is_outer xs)
+up_to_outer n [] h = tt
+up_to_outer n (x ∷ xs) h = by (up_to_outer n xs h.1) (is_outer x)
+  where
+    by : AllUpTo n (filter is_outer xs) → (b : Bool) → AllUpTo n (cond b (x ∷ filter is_outer xs) (filter is_outer xs))
+    by g true = (h.0, g)
+    by g false = g
+
+outer_timed : (n : ℕ) (u : Used) (a : Ran) → IsTimed n u a → IsTimed n u (without_answers a)
+outer_timed n u a h = record {
+  rises = h.rises;
+  from = from_outer u.steps a.marks h.from;
+  within = h.within;
+  up_to = λ b. up_to_outer n a.marks (h.up_to b);
+}
+
 timed_kept : (w : World) (n : ℕ) → IsKept (λ u a b. IsTimed n u a) w w
 timed_kept w n = record {
   at_end = λ e x u. ends_timed n e u;
   at_after = λ u a a' k k' h ps ps' step. after_timed n u a k h (at_stop (IsTimed n a.used) k a.end a.used ps (ends_timed n Waits a.used) (λ x. step a.end x a.used));
   at_told = λ t u a a' h. marked_timed n (Told t) u a h;
   at_asked = λ q u go go' h. marked_timed n (Asked q) u _ (if_replied_timed n (slice_get w.replies u.replies) u go h);
+  at_answers = λ u a a' k k' h ps ps' step. after_timed n u (without_answers a) (k a.marks) (outer_timed n u a h) (at_stop (IsTimed n a.used) (k a.marks) a.end a.used (ps a.marks) (ends_timed n Waits a.used) (λ x. step a.marks a.end x a.used));
   same_clauses = refl;
   same_primitive = refl;
 }
@@ -229,12 +259,35 @@ module _ (S : End → Type 0) (sub : (e : End) → S e → IsStopped e) (n : ℕ
   )
 
   module _ (w w' : World) (clauses : w'.clauses ≡ w.clauses) (primitives : w'.primitive ≡ w.primitive) (replies : (k : ℕ) → IsFurther S (slice_get w.replies k) (slice_get w'.replies k)) (limits : w.limit ≤ w'.limit) (spent : w.limit < w'.limit → S Spent) (limit : w.limit ≡ n) where
+  outer_further : (a b : Ran) → GoesOn S n a b → GoesOn S n (without_answers a) (without_answers b)
+  outer_further a b g = record {
+    stopped = g.stopped;
+    more = filter is_outer g.more;
+    is = ap (filter is_outer) g.is ∙ filter-append is_outer a.marks g.more;
+    later = λ e. ((g.later e).0, from_outer (suc n) g.more (g.later e).1);
+  }
+
+  grows_answers : (l m : ℕ) (u : Used) (a b : Ran) (k k' : Marks → End → Used → Ran) → Grows l m u a b → ((ms : Marks) → PassesStops (k ms)) → ((ms : Marks) → PassesStops (k' ms)) → ((ms : Marks) (e : End) → NotWaits e → (v : Used) → Grows l m v (k ms e v) (k' ms e v)) → Grows l m u (after (without_answers a) (k a.marks)) (after (without_answers b) (k' b.marks))
+  grows_answers l m u a b k k' h ps ps' step g =
+      (after_timed l u (without_answers b) (k' b.marks) (outer_timed l u b (h g).0) (both b.marks).0, go (h g).1)
+    where
+      both : (ms : Marks) → IsTimed l b.used (k' ms b.end b.used) × IsLonger S n (k ms b.end b.used) (k' ms b.end b.used)
+      both ms =
+          at_waits (Grows l m b.used) (k ms) (k' ms) b.end b.used (ps ms) (ps' ms) (grows_ends l m Waits b.used) (λ x. step ms b.end x b.used) (omega (arith, g, (h g).0.rises))
+
+      go : IsLonger S n a b → IsLonger S n (after (without_answers a) (k a.marks)) (after (without_answers b) (k' b.marks))
+      go (inl e) =
+          subst (λ (x : Ran). IsLonger S n (after (without_answers x) (k x.marks)) (after (without_answers b) (k' b.marks))) (sym e) (longer_within (without_answers b) (k b.marks) (k' b.marks) (both b.marks).1)
+      go (inr s) = inr (longer_further l (without_answers a) (without_answers b) (k a.marks) (k' b.marks) (outer_further a b s) (ps a.marks) (both b.marks).0)
+
+  module _ (w w' : World) (clauses : w'.clauses ≡ w.clauses) (primitives : w'.primitive ≡ w.primitive) (limits : w.limit ≤ w'.limit) (spent : w.limit < w'.limit → S Spent) (limit : w.limit ≡ n) where
     grows_kept : (m : ℕ) → IsKept (Grows w'.limit m) w w'
     grows_kept m = record {
       at_end = λ e x u. grows_ends w'.limit m e u;
       at_after = λ u a b k k' h ps ps' step. grows_after w'.limit m u a b k k' h ps ps' step;
       at_told = λ t u a b h. grows_marked w'.limit m (Told t) u a b h;
       at_asked = λ q u go go' h. grows_marked w'.limit m (Asked q) u _ _ (grows_replied w'.limit m u (slice_get w.replies u.replies) (slice_get w'.replies u.replies) go go' (replies u.replies) h);
+      at_answers = λ u a b k k' h ps ps' step. grows_answers w'.limit m u a b k k' h ps ps' step;
       same_clauses = clauses;
       same_primitive = primitives;
     }

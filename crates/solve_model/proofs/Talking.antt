@@ -19,7 +19,7 @@ module _ (w : World) (t : Tree) (fs : List Frame) (ms ns : List (ℕ × TraceMar
   -- what is left after the prompt, by the next reply
   pub asked : (r : Option Tree) → r ≡ slice_get w.replies u.replies → traced_after t ns (resumed w fs (if_replied r u replied)) ≡ traced_after t ms (resumed w fs (prompted w.replies (runs w) q term is p o u))
   asked r e =
-      marked_shown w t fs ms ns (Asked q) u (if_replied r u replied) told
+      marked_shown w t fs ms ns (Asked q) refl u (if_replied r u replied) told
       ∙ ap (λ (x : Option Tree). traced_after t ms (resumed w fs (marked (Asked q) u (if_replied x u replied)))) e
 
 -- a reply that is unified with the term

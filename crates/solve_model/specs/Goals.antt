@@ -37,6 +37,12 @@ pub data Row : Type 0 where
   Output : Tree → Row
   -- pengine_input/2: the prompt, and the term that the reply is unified with
   Input : Tree → Tree → Row
+  -- findall/3
+  FindAll : Tree → Tree → Tree → Row
+  -- bagof/3
+  BagOf : Tree → Tree → Tree → Row
+  -- setof/3
+  SetOf : Tree → Tree → Tree → Row
   -- a predicate of the program, or a primitive, by the goal
   Predicate : Pi → Tree → Row
 
@@ -102,7 +108,12 @@ unfoldable pub row_of_two : List ℕ → Tree → Tree → Row
 row_of_two f a b = row_named f (two_rows a b) (Predicate (indicator f 2) (two_arguments f a b))
 
 abbrev pub three_rows : Tree → Tree → Tree → List (List ℕ × Row)
-three_rows a b c = (codes "catch", Catch a b c) ∷ []
+three_rows a b c =
+    (codes "catch", Catch a b c)
+    ∷ (codes "findall", FindAll a b c)
+    ∷ (codes "bagof", BagOf a b c)
+    ∷ (codes "setof", SetOf a b c)
+    ∷ []
 
 unfoldable pub row_of_three : List ℕ → Tree → Tree → Tree → Row
 row_of_three f a b c =
@@ -135,6 +146,9 @@ control_error e = error_term e no_context
 
 abbrev pub not_callable : Tree → Tree
 not_callable t = control_error (type_error (codes "callable") t)
+
+abbrev pub not_list : Tree → Tree
+not_list t = control_error (type_error (codes "list") t)
 
 abbrev pub unbound_goal : Tree
 unbound_goal = control_error instantiation_error

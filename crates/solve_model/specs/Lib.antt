@@ -1,3 +1,4 @@
+pub mod Collecting
 pub mod Dropping
 pub mod Goals
 pub mod Laws

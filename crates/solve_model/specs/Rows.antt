@@ -33,6 +33,9 @@ row_as t (row.Catch a b c) = goals.Catch a b c
 row_as t (row.Throw a) = goals.Throw a
 row_as t (row.Output a) = goals.Output a
 row_as t (row.Input a b) = goals.Input a b
+row_as t (row.FindAll a b c) = goals.FindAll a b c
+row_as t (row.BagOf a b c) = goals.BagOf a b c
+row_as t (row.SetOf a b c) = goals.SetOf a b c
 row_as t row.Predicate = goals.Predicate (indicator_of t) t
 
 abbrev pub ready_as : Ready → goals.Ready

@@ -1,5 +1,5 @@
 -- Depth-first resolution (ISO 13211-1, 7.7). A run takes the first item of its list again and again; each item taken is one step.
-use Rattle.std.specs.Prelude.{ℕ, zero, suc, ◌+◌, min, max, Bool, true, false, ◌||◌, ◌==◌, List, [], ◌∷◌, ◌++◌, map, nat_lt, if◌then◌else◌, Option, Some, None, length, slice_get}
+use Rattle.std.specs.Prelude.{ℕ, zero, suc, ◌+◌, min, max, Bool, true, false, ◌||◌, ◌==◌, List, [], ◌∷◌, ◌++◌, map, nat_lt, if◌then◌else◌, Option, Some, None, length, slice_get, filter}
 use Rattle.term_core.specs.declared.pi.Pi.{Pi}
 use Rattle.term_core.specs.Tree.{Tree, variable}
 use Rattle.term_core.specs.Parts.{arguments_of}
@@ -7,9 +7,10 @@ use Rattle.term_core.specs.Variables.{renamed, numbered, variables, first_free}
 use Rattle.term_core.specs.Substitution.{apply}
 use Rattle.term_core.specs.Unifier.{mgu}
 use Rattle.program.specs.Clauses.{Clause, clauses_of}
-use Rattle.solve_model.specs.Goals.{Row, Succeeds, Fails, Cuts, Both, Either, IfElse, Test, Differ, Call, Catch, Throw, Output, Input, Predicate, row_of, true_goal, fail_goal, Ready, Runs, Throws, ready, with_arguments, unbound_goal, unknown_predicate}
+use Rattle.solve_model.specs.Goals.{Row, Succeeds, Fails, Cuts, Both, Either, IfElse, Test, Differ, Call, Catch, Throw, Output, Input, Predicate, row_of, true_goal, fail_goal, Ready, Runs, Throws, ready, with_arguments, unbound_goal, unknown_predicate, FindAll, BagOf, SetOf, not_list}
 use Rattle.builtin_table.specs.Primitives.{Offer, Outcome, Offers, Ball, Unknown, copy}
 use Rattle.builtin_table.specs.Outside.{reaches_outside}
+use Rattle.builtin_table.specs.Solutions.{copies, after_copies, may_be_list, findall_offers, bagof_offers, setof_offers, behind_carets, witness, witnessed}
 
 -- a substitution: for each variable bound, its number and its term
 abbrev pub Bindings : Type 0
@@ -234,6 +235,57 @@ caught run g catching recovery is p o u =
     after (run (Goal g p.level o ∷ ExitCatch p.level ∷ is) (deeper 1 p) o u)
     (at_catch p.level (recovered run catching recovery is p o))
 
+-- ---- all solutions (ISO 13211-1, 8.10)
+
+abbrev pub is_shown_outside : Mark → Bool
+is_shown_outside (Answered s o) = false
+is_shown_outside (Told t) = true
+is_shown_outside (Asked t) = true
+
+-- what a run inside another shows: all its marks but the answers
+abbrev pub without_answers : Ran → Ran
+without_answers r = record r { marks = filter (λ m. is_shown_outside m.1) r.marks }
+
+abbrev pub with_solution : Tree → Mark → List Tree → List Tree
+with_solution t (Answered s o) ts = numbered (apply s t) ∷ ts
+with_solution t (Told a) ts = ts
+with_solution t (Asked a) ts = ts
+
+-- the template under each answer, with its variables numbered from 0
+abbrev pub solutions : Tree → List (ℕ × Mark) → List Tree
+solutions t [] = []
+solutions t (m ∷ ms) = with_solution t m.1 (solutions t ms)
+
+-- The end of a run that is gathered: what the solutions offer is tried in order. A ball that no catch inside took goes outwards.
+abbrev pub at_gathered : Runner → List Offer → List Item → Place → Bool → End → Used → Ran
+at_gathered run os is p o Failed u = in_order run (offered os is p) o u
+at_gathered run os is p o (Thrown b l) u = ends (Thrown b (if l == 0 then catcher is else l)) u
+at_gathered run os is p o e u = ends e u
+
+-- A run whose answers are gathered, after these copies: f tells what all copies offer, and v is the next variable.
+abbrev pub gathered : Runner → (template : Tree) → (List Tree → List Offer) → List Tree → (v : ℕ) → List Item → Place → Bool → Ran → Ran
+gathered run t f cs v is p o r =
+    let ts = solutions t r.marks in
+    after (without_answers r) (at_gathered run (f (cs ++ copies v ts)) is (record p { next = after_copies v ts }) o)
+
+-- a goal alone, as by `call`: with levels of its own
+abbrev pub alone : Runner → Tree → Place → Used → Ran
+alone run g p u = after (run (Goal g 1 false ∷ []) (record p { level = 2 }) false u) (at_cut 1)
+
+-- the solutions of a goal, which is made ready first
+abbrev pub collected : Runner → (goal template : Tree) → (List Tree → List Offer) → List Item → Place → Bool → Used → Ran
+collected run g t f is p o u =
+    if_ready (ready g) is u (λ h. gathered run t f [] p.next is p o (alone run h p u))
+
+-- findall(T, G, L), where L may be a list or not
+abbrev pub found_all : Runner → (list_fits : Bool) → (template goal list : Tree) → List Item → Place → Bool → Used → Ran
+found_all run true t g l is p o u = collected run (apply p.subst g) t (findall_offers l) is p o u
+found_all run false t g l is p o u = throws (not_list (apply p.subst l)) is u
+
+-- bagof(T, G, L) or setof(T, G, L) by what is offered, where g is G under the substitution and w is the list of its free variables
+abbrev pub all_grouped : Runner → (Tree → Tree → List Tree → List Offer) → (template g w list : Tree) → List Item → Place → Bool → Used → Ran
+all_grouped run f t g w l is p o u = collected run (behind_carets g) (witnessed w t) (f w l) is p o u
+
 -- throw/1 of a term under the substitution (ISO 13211-1, 7.8.10)
 abbrev pub thrown : Tree → Tree
 thrown (variable n) = unbound_goal
@@ -276,6 +328,11 @@ goal_step w run (Catch g c r) l cut is p o u =
 goal_step w run (Throw b) l cut is p o u = throws (thrown (apply p.subst b)) is u
 goal_step w run (Output t) l cut is p o u = marked (Told (apply p.subst t)) u (run is p o u)
 goal_step w run (Input q t) l cut is p o u = prompted w.replies run (apply p.subst q) t is p o u
+goal_step w run (FindAll t g m) l cut is p o u = found_all run (may_be_list (apply p.subst m)) t g m is p o u
+goal_step w run (BagOf t g m) l cut is p o u =
+    all_grouped run bagof_offers t (apply p.subst g) (witness (apply p.subst t) (apply p.subst g)) m is p o u
+goal_step w run (SetOf t g m) l cut is p o u =
+    all_grouped run setof_offers t (apply p.subst g) (witness (apply p.subst t) (apply p.subst g)) m is p o u
 goal_step w run (Predicate i t) l cut is p o u = called w run (clauses_of i w.clauses) i t is p o u
 
 unfoldable pub item_step : World → Runner → Item → List Item → Place → Bool → Used → Ran

@@ -14,6 +14,7 @@ use Rattle.solve_model.specs.declared.search.Item.TheVariants as item
 use Rattle.solve_model.specs.declared.search.Branch.{Branch}
 use Rattle.solve_model.specs.declared.search.Choice.{Choice}
 use Rattle.solve_model.specs.declared.search.Catcher.{Catcher}
+use Rattle.solve_model.specs.declared.collecting.Collector.{Collector}
 use Rattle.solve_model.specs.declared.search.End.{End}
 use Rattle.solve_model.specs.declared.search.End.TheVariants as the_end
 use Rattle.solve_model.specs.declared.talk.Question.{Question}
@@ -24,6 +25,7 @@ use Rattle.solve_model.specs.declared.search.Now.{Now}
 use Rattle.solve_model.specs.declared.search.Now.TheVariants as now
 use Rattle.solve_model.specs.declared.search.Search.{Search}
 use Rattle.solve_model.specs.declared.search.Stack.{Stack}
+use Rattle.solve_model.specs.Collecting.{offers_by}
 use Rattle.solve_model.specs.Trace.{marks_shown, end_shown}
 use Rattle.solve_model.specs.Run as run
 
@@ -81,6 +83,15 @@ abbrev pub recovers : run.World → Catcher → Tree → run.Used → run.Ran
 recovers w c ball u =
     run.recovered (runs w) c.catching c.recovery (items_of c.items.items) (place_of c.place) c.more ball u
 
+-- what a collector makes of a run that goes on after its copies
+abbrev pub gathered_by : run.World → Collector → run.Ran → run.Ran
+gathered_by w c r =
+    run.gathered (runs w) c.template (offers_by c.collection) c.copies.items c.next (items_of c.rest.items.items) (place_of c.rest.place) c.more r
+
+-- the place at which what is gathered is tried
+abbrev pub place_after : Collector → run.Place
+place_after c = record { subst = c.rest.place.subst; next = c.next; level = c.rest.place.level }
+
 -- what a frame does at the end of a run
 abbrev pub at_frame : run.World → Frame → run.End → run.Used → run.Ran
 at_frame w (frame.Clauses c) = run.at_failed (chosen w c)
@@ -90,11 +101,18 @@ at_frame w (frame.Cut l) = run.at_cut l
 at_frame w (frame.CutTo l) = run.cut_to l
 at_frame w (frame.Condition b more) = run.at_condition b.place.level (runs_branch w b more)
 at_frame w (frame.Catch c) = run.at_catch c.place.level (recovers w c)
+at_frame w (frame.Collect c) =
+    run.at_gathered (runs w) (offers_by c.collection c.copies.items) (items_of c.rest.items.items) (place_after c) c.more
+
+-- what a frame makes of a run: all but one that gathers answers act at its end alone
+abbrev pub through : run.World → Frame → run.Ran → run.Ran
+through w (frame.Collect c) r = gathered_by w c r
+through w f r = run.after r (at_frame w f)
 
 -- a run, and then the frames, the last of them first
 unfoldable pub resumed : run.World → List Frame → run.Ran → run.Ran
 resumed w [] r = r
-resumed w (f ∷ fs) r = run.after (resumed w fs r) (at_frame w f)
+resumed w (f ∷ fs) r = through w f (resumed w fs r)
 
 abbrev pub asks : run.World → Question → run.Used → run.Ran
 asks w q u =

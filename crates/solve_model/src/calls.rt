@@ -203,8 +203,8 @@ fn found_branch(found: Found, items: Vec<Item>, level: u64) -> Branch
     }
 }
 
-// The results of a primitive are alternatives.
-fn take_results(
+// Results are alternatives.
+pub(crate) fn take_results(
     alloc: Global,
     offers: Offers,
     rest: Branch,

@@ -26,6 +26,9 @@ pub(crate) enum Row {
     Throw(Term),
     Output(Term),
     Input(Term, Term),
+    FindAll(Term, Term, Term),
+    BagOf(Term, Term, Term),
+    SetOf(Term, Term, Term),
     Predicate,
 }
 
@@ -154,6 +157,18 @@ fn row_of_three(alloc: Global, name: &str, goal: &Term) -> Result<Row, Memory>
         "catch" => {
             let (goal, catching, recovery) = three_arguments(alloc, goal)?;
             Ok(Row::Catch(goal, catching, recovery))
+        }
+        "findall" => {
+            let (template, goal, list) = three_arguments(alloc, goal)?;
+            Ok(Row::FindAll(template, goal, list))
+        }
+        "bagof" => {
+            let (template, goal, list) = three_arguments(alloc, goal)?;
+            Ok(Row::BagOf(template, goal, list))
+        }
+        "setof" => {
+            let (template, goal, list) = three_arguments(alloc, goal)?;
+            Ok(Row::SetOf(template, goal, list))
         }
         _ => Ok(Row::Predicate),
     }

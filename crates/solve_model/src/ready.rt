@@ -2,7 +2,7 @@
 ghost use Rattle.std.specs.Prelude.{◌≡◌, ◌≤◌, vec_len, IfOk};
 ghost use Rattle.term_core.specs.Tree.{Tree};
 ghost use Rattle.builtin_table.specs.Errors.{instantiation_error as instantiation_error_tree};
-ghost use Rattle.solve_model.specs.Goals.{control_error as control_error_of, not_callable as not_callable_tree, ready as ready_tree, ready_compound as ready_compound_tree, unbound_goal as unbound_goal_tree, unknown_predicate as unknown_predicate_of, with_arguments as with_arguments_tree};
+ghost use Rattle.solve_model.specs.Goals.{control_error as control_error_of, not_callable as not_callable_tree, not_list as not_list_tree, ready as ready_tree, ready_compound as ready_compound_tree, unbound_goal as unbound_goal_tree, unknown_predicate as unknown_predicate_of, with_arguments as with_arguments_tree};
 ghost use Rattle.solve_model.specs.Rows.{ready_as};
 
 use builtin_table::{
@@ -91,6 +91,13 @@ fn not_callable(alloc: Global, culprit: Term) -> Result<Term, Memory>
     ensures { IfOk result (λ t. t ≡ not_callable_tree culprit) }
 {
     control_error(alloc, type_error(alloc, "callable", culprit)?)
+}
+
+// The error of a list argument that is neither a variable nor a list.
+pub(crate) fn not_list(alloc: Global, culprit: Term) -> Result<Term, Memory>
+    ensures { IfOk result (λ t. t ≡ not_list_tree culprit) }
+{
+    control_error(alloc, type_error(alloc, "list", culprit)?)
 }
 
 // The error of a goal whose predicate is unknown.

@@ -1,6 +1,7 @@
 // What a search keeps: the branch that runs, and what is done at its end.
 use crate::answers::TraceMark;
 use crate::bindings::Bindings;
+use crate::collecting::Collector;
 use crate::results::{Found, Results};
 use crate::talk::Question;
 use crate::work::Work;
@@ -104,6 +105,8 @@ pub(crate) enum Frame {
     Condition(Branch, bool),
     // a catch at its place
     Catch(Catcher),
+    // the answers are gathered
+    Collect(Collector),
 }
 
 // What a search does next.

@@ -4,8 +4,9 @@ ghost use Rattle.solve_model.specs.Run.{ends, query, start as start_of};
 ghost use Rattle.solve_model.specs.Search.{end_of, place_of, traced_after, used_of, whole};
 ghost use Rattle.solve_model.specs.Trace.{world_of, traced};
 
-use crate::answers::{Trace, TraceEnd, TraceMark};
+use crate::answers::{Trace, TraceEnd};
 use crate::bindings::Bindings;
+use crate::collecting::answer;
 use crate::ready::{Ready, make_ready};
 use crate::search::{Branch, End, Frame, Goal, Item, Now, Place, Scope, Search, Stack};
 use crate::steps::{frame_step, item_step};
@@ -116,10 +117,7 @@ fn take(
 {
     let Branch { mut items, place } = branch;
     let Some(item) = items.pop() else {
-        let term = template.apply(alloc, place.subst.subst())?;
-        search
-            .marks
-            .push((search.steps, TraceMark::Answer { term, more }))?;
+        answer(alloc, template, &place.subst, more, search)?;
         return Ok(Now::Ends(End::Failed));
     };
     if search.steps >= limit {

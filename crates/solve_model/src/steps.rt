@@ -8,9 +8,11 @@ ghost use Rattle.solve_model.specs.Trace.{world_of};
 
 use crate::calls::{call, choose, take_result};
 use crate::catches::{call_with, catch, recover, throw_term};
+use crate::collecting::{find_all, gathered_step, group_all};
 use crate::control::{branch_on, cut, differ, either, test};
 use crate::goals::{Row, row_of_goal};
 use crate::items::with_goal;
+use crate::solutions::Arrangement;
 use crate::search::{Branch, Catcher, Context, End, Frame, Goal, Item, Now, Stack};
 use crate::talk::{input, output};
 use program::Program;
@@ -80,6 +82,20 @@ fn goal_step(
         }
         Row::Input(prompt, term) => {
             let now = input(alloc, &prompt, term, rest, more, stack)?;
+            Ok(now)
+        }
+        Row::FindAll(template, goal, list) => {
+            let now = find_all(alloc, template, &goal, list, rest, more, stack)?;
+            Ok(now)
+        }
+        Row::BagOf(template, goal, list) => {
+            let kind = Arrangement::AsFound;
+            let now = group_all(alloc, kind, template, &goal, list, rest, more, stack)?;
+            Ok(now)
+        }
+        Row::SetOf(template, goal, list) => {
+            let kind = Arrangement::Sorted;
+            let now = group_all(alloc, kind, template, &goal, list, rest, more, stack)?;
             Ok(now)
         }
         Row::Predicate => {
@@ -181,6 +197,10 @@ pub(crate) fn frame_step(
         (Frame::Condition(branch, more), end) => Ok(condition_step(branch, more, end)),
         (Frame::Catch(catcher), end) => {
             let now = catch_step(alloc, catcher, end, stack)?;
+            Ok(now)
+        }
+        (Frame::Collect(collector), end) => {
+            let now = gathered_step(alloc, collector, end, stack)?;
             Ok(now)
         }
         (_, end) => Ok(Now::Ends(end)),

@@ -65,6 +65,24 @@ returns-in_ok-now-in-Throw c = λ ts limit u.
     rw (sym c.in_ok-row_of_goal.ensures ∙ ap (row_as c.args.goal.term) c.in-Throw.is)
     (c.in_ok-now-in-Throw.ensures (world_of c.args.program.now ts limit) u)
 
+pub returns-in_ok-now-in-FindAll : goal.returns-in_ok-now-in-FindAll
+unfolding goal_step
+returns-in_ok-now-in-FindAll c = λ ts limit u.
+    rw (sym c.in_ok-row_of_goal.ensures ∙ ap (row_as c.args.goal.term) c.in-FindAll.is)
+    (c.in_ok-now-in-FindAll.ensures (world_of c.args.program.now ts limit) u)
+
+pub returns-in_ok-now-in-BagOf : goal.returns-in_ok-now-in-BagOf
+unfolding goal_step
+returns-in_ok-now-in-BagOf c = λ ts limit u.
+    rw (sym c.in_ok-row_of_goal.ensures ∙ ap (row_as c.args.goal.term) c.in-BagOf.is)
+    (c.in_ok-now-in-BagOf.ensures (world_of c.args.program.now ts limit) u)
+
+pub returns-in_ok-now-in-SetOf : goal.returns-in_ok-now-in-SetOf
+unfolding goal_step
+returns-in_ok-now-in-SetOf c = λ ts limit u.
+    rw (sym c.in_ok-row_of_goal.ensures ∙ ap (row_as c.args.goal.term) c.in-SetOf.is)
+    (c.in_ok-now-in-SetOf.ensures (world_of c.args.program.now ts limit) u)
+
 pub returns-in_ok-now-in-Call : goal.returns-in_ok-now-in-Call
 unfolding goal_step
 returns-in_ok-now-in-Call c = λ ts limit u.
