@@ -179,7 +179,7 @@ fn expressions_have_the_values_of_the_standard(rt: HostRuntime) -> Result<(), Fa
 }
 
 // What a goal of this name gives for these arguments.
-const ROWS: [(&str, &[Part], &[Part]); 74] = [
+const ROWS: [(&str, &[Part], &[Part]); 70] = [
     ("=", &[X(0), A("a")], &[F("one", 3), N(0), X(0), A("a")]),
     (
         "unify_with_occurs_check",
@@ -655,33 +655,6 @@ const ROWS: [(&str, &[Part], &[Part]); 74] = [
             A("<"),
             N(2),
         ],
-    ),
-    (
-        "atom_length",
-        &[A("é"), X(0)],
-        &[F("one", 3), N(0), X(0), N(1)],
-    ),
-    (
-        "sub_atom",
-        &[A(""), X(0), X(1), X(2), X(3)],
-        &[
-            F("one", 9),
-            N(0),
-            X(0),
-            N(0),
-            X(1),
-            N(0),
-            X(2),
-            N(0),
-            X(3),
-            A(""),
-        ],
-    ),
-    ("atom_concat", &[X(0), X(1), A("a")], &[A("many")]),
-    (
-        "atom_length",
-        &[A("a"), X(0), X(1), X(2), X(3)],
-        &[A("unknown")],
     ),
     ("\\=", &[A("a"), A("b")], &[A("unknown")]),
     ("var", &[A("a"), A("b")], &[A("unknown")]),
