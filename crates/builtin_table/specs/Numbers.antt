@@ -2,14 +2,14 @@
 use Rattle.std.specs.Prelude.{ℕ, ℤ, pos, ◌-ℤ◌, Bool, false, ◌&&◌, ◌==◌, if◌then◌else◌, List, [], ◌∷◌, length, Option, Some, None, Result, Ok, Err, slice_range, codes, bytes_eq}
 use Rattle.std.specs.Str.{chars, encode_utf8_all}
 use Rattle.std.specs.Fmt.{signed_decimal}
-use Rattle.term_core.specs.Tree.{Tree, variable, integer, atom, compound}
+use Rattle.term_core.specs.Tree.{Tree, variable, integer, atom}
 use Rattle.term_core.specs.Tokens as lexical
 use Rattle.prolog_lex.specs.Lexed.{tokens_of}
 use Rattle.builtin_table.specs.declared.spelling.Spelling.{Spelling}
 use Rattle.builtin_table.specs.declared.spelling.Spelling.TheVariants.{Characters, Codes}
 use Rattle.builtin_table.specs.Arithmetic.{fits}
 use Rattle.builtin_table.specs.Errors.{instantiation_error, type_error, syntax_error}
-use Rattle.builtin_table.specs.Lists.{elements, rest, is_list, bound}
+use Rattle.builtin_table.specs.Lists.{elements, is_list, bound}
 use Rattle.builtin_table.specs.Outcomes.{Outcome, unifies, fails, ball}
 use Rattle.builtin_table.specs.Texts.{joined, character_terms}
 

@@ -1,9 +1,9 @@
 -- Sorting by the standard order (ISO/IEC 13211-1, Cor.2, 8.4.3 and 8.4.4).
-use Rattle.std.specs.Prelude.{ℕ, Bool, false, not, if◌then◌else◌, List, [], ◌∷◌, Some, None, Result, Ok, Err, codes, bytes_eq}
+use Rattle.std.specs.Prelude.{Bool, false, not, if◌then◌else◌, List, [], ◌∷◌, Some, None, Result, Ok, Err, codes, bytes_eq}
 use Rattle.std.specs.List.{find, dedup}
 use Rattle.std.specs.declared.cmp.Ordering.{Ordering}
 use Rattle.std.specs.Ordering.{is_lt, eq_by_cmp}
-use Rattle.term_core.specs.Tree.{Tree, variable, integer, atom, compound, no_trees, tree}
+use Rattle.term_core.specs.Tree.{Tree, compound, no_trees, tree}
 use Rattle.term_core.specs.Order.{tree_cmp}
 use Rattle.builtin_table.specs.Errors.{type_error}
 use Rattle.builtin_table.specs.Lists.{list_of, needed_list, needed_values}

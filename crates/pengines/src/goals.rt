@@ -922,21 +922,44 @@ fn check_row(rt: &impl Abort, alloc: Global, row: (&str, &str, &str)) -> Result<
     Ok(())
 }
 
-#[test]
-fn goals_bring_their_lines(rt: HostRuntime) -> Result<(), Fail> {
-    let alloc = rt.alloc();
-    for table in [
-        &TERMS[..],
-        &VALUES,
-        &LENGTHS,
-        &PARTS,
-        &CHARACTERS,
-        &NUMBERS,
-        &SORTS,
-    ] {
-        for row in table {
-            check_row(&rt, alloc, *row)?;
-        }
+fn check_rows(rt: &impl Abort, alloc: Global, rows: &[(&str, &str, &str)]) -> Result<(), Fail> {
+    for row in rows {
+        check_row(rt, alloc, *row)?;
     }
     Ok(())
+}
+
+#[test]
+fn terms_compared_and_made(rt: HostRuntime) -> Result<(), Fail> {
+    check_rows(&rt, rt.alloc(), &TERMS)
+}
+
+#[test]
+fn values_of_expressions(rt: HostRuntime) -> Result<(), Fail> {
+    check_rows(&rt, rt.alloc(), &VALUES)
+}
+
+#[test]
+fn lengths_and_concatenations(rt: HostRuntime) -> Result<(), Fail> {
+    check_rows(&rt, rt.alloc(), &LENGTHS)
+}
+
+#[test]
+fn parts_of_atoms(rt: HostRuntime) -> Result<(), Fail> {
+    check_rows(&rt, rt.alloc(), &PARTS)
+}
+
+#[test]
+fn characters_and_codes(rt: HostRuntime) -> Result<(), Fail> {
+    check_rows(&rt, rt.alloc(), &CHARACTERS)
+}
+
+#[test]
+fn numbers_as_texts(rt: HostRuntime) -> Result<(), Fail> {
+    check_rows(&rt, rt.alloc(), &NUMBERS)
+}
+
+#[test]
+fn sorted_lists(rt: HostRuntime) -> Result<(), Fail> {
+    check_rows(&rt, rt.alloc(), &SORTS)
 }
