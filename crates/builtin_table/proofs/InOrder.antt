@@ -85,6 +85,7 @@ module _ {A : Type 0} (cmp : A → A → Ordering) (total : IsTotalOrder cmp) wh
       first : (a b : Bool) → not a && not b ≡ true → a ≡ false
       first true b e = sym e
       first false b e = refl
+
       second : (a b : Bool) → not a && not b ≡ true → b ≡ false
       second true b e = absurd (true≢false (sym e))
       second false true e = sym e
@@ -99,6 +100,7 @@ module _ {A : Type 0} (cmp : A → A → Ordering) (total : IsTotalOrder cmp) wh
       swap true false h k e = refl
       swap false true h k e = refl
       swap false false h k e = refl
+
       by : tied z (inserted cmp x ys) ≡ tied z (x ∷ ys) → (b : Bool) → less y x ≡ b → tied z (cond b (y ∷ inserted cmp x ys) (x ∷ y ∷ ys)) ≡ tied z (x ∷ y ∷ ys)
       by g true e =
           ap (λ (l : List A). cond (ties less z y) (y ∷ l) l) g ∙ swap (ties less z x) (ties less z y) refl refl e

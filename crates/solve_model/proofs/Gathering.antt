@@ -11,7 +11,7 @@ use Rattle.solve_model.specs.Collecting.{offers_by}
 use Rattle.solve_model.specs.Dropping.{IsCollect, NoneCollect, IsInnermost}
 use Rattle.solve_model.specs.Run.{World, Bindings, Ran, Used, Answered, after, at_gathered, gathered, marked, without_answers, solutions}
 use Rattle.builtin_table.specs.Solutions.{copies, after_copies}
-use Rattle.solve_model.specs.Search.{at_frame, gathered_by, items_of, place_of, resumed, runs, through}
+use Rattle.solve_model.specs.Search.{gathered_by, items_of, place_of, resumed, runs, through}
 
 -- a frame that gathers no answers lets them pass
 passes_answer : (w : World) (f : Frame) → (IsCollect f → ⊥) → (s : Bindings) (o : Bool) (u : Used) (r : Ran) → through w f (marked (Answered s o) u r) ≡ marked (Answered s o) u (through w f r)

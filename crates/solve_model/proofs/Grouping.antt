@@ -2,7 +2,6 @@
 use Rattle.std.proofs.Common.{◌≡◌, ◌≢◌, Bool, true, false, not, List, [], ◌∷◌, ◌++◌, if◌then◌else◌, map, reverse, ap, refl, sym, ◌∙◌, append_assoc, append-nil}
 use Rattle.std.proofs.lemmas.List.{reverse-append, reverse-reverse, map-append}
 use Rattle.std.specs.Ordering.{is_eq}
-use Rattle.term_core.specs.Tree.{Tree}
 use Rattle.term_core.specs.Order.{tree_cmp}
 use Rattle.builtin_table.specs.Solutions.{Keyed, joined, grouped}
 use Rattle.solve_model.specs.Collecting.{first_is_other, groups_of}

@@ -9,7 +9,6 @@ use Rattle.term_core.specs.Variables.{numbered}
 use Rattle.program.specs.Clauses.{Clause}
 use Rattle.solve_model.specs.declared.answers.Trace.{Trace}
 use Rattle.solve_model.specs.declared.answers.TraceMark.{TraceMark}
-use Rattle.solve_model.specs.declared.answers.TraceMark.TheVariants as shown
 use Rattle.solve_model.specs.declared.search.Frame.{Frame}
 use Rattle.solve_model.specs.declared.search.Frame.TheVariants as frame
 use Rattle.solve_model.specs.declared.search.Item as kept

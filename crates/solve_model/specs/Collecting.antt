@@ -1,5 +1,5 @@
 -- What the code of findall/3, bagof/3 and setof/3 keeps.
-use Rattle.std.specs.Prelude.{ℕ, Bool, false, not, ◌&&◌, ◌==◌, List, [], ◌∷◌, map, reverse, codes, bytes_eq}
+use Rattle.std.specs.Prelude.{Bool, false, not, ◌&&◌, ◌==◌, List, [], ◌∷◌, map, reverse, codes, bytes_eq}
 use Rattle.std.specs.Ordering.{is_eq}
 use Rattle.term_core.specs.declared.node.Node.{Node}
 use Rattle.term_core.specs.declared.node.Node.TheVariants as node
@@ -7,7 +7,7 @@ use Rattle.term_core.specs.Tree.{Tree}
 use Rattle.term_core.specs.Order.{tree_cmp}
 use Rattle.builtin_table.specs.InOrder.{sorted_set}
 use Rattle.builtin_table.specs.Primitives.{Offer}
-use Rattle.builtin_table.specs.Solutions.{Keyed, findall_offers, group_offers, bagof_offers, setof_offers}
+use Rattle.builtin_table.specs.Solutions.{Keyed, findall_offers, group_offers}
 use Rattle.solve_model.specs.declared.solutions.Arrangement.{Arrangement}
 use Rattle.solve_model.specs.declared.solutions.Arrangement.TheVariants as arrangement
 use Rattle.solve_model.specs.declared.solutions.Collection.{Collection}

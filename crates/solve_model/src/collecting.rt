@@ -14,8 +14,8 @@ use crate::frames::push;
 use crate::items::catcher;
 use crate::ready::{Ready, make_ready, not_list};
 use crate::search::{Branch, End, Frame, Goal, Item, Now, Place, Scope, Search, Stack};
-use crate::work::Work;
 use crate::solutions::{Arrangement, Collection, offers, witness};
+use crate::work::Work;
 use prims_tree::may_be_list;
 use std::alloc::Global;
 use term_core::{Memory, Term};
@@ -52,7 +52,15 @@ pub(crate) fn find_all(
     }
     let goal = goal.apply(alloc, rest.place.subst.subst())?;
     stack.work.spend(&goal)?;
-    let now = collect(alloc, goal, template, Collection::All(list), rest, more, stack)?;
+    let now = collect(
+        alloc,
+        goal,
+        template,
+        Collection::All(list),
+        rest,
+        more,
+        stack,
+    )?;
     Ok(now)
 }
 
@@ -192,12 +200,7 @@ pub(crate) fn answer(
 }
 
 // The collector at this place, the innermost, takes an answer.
-fn gather(
-    alloc: Global,
-    subst: &Bindings,
-    at: usize,
-    stack: &mut Stack,
-) -> Result<(), Memory>
+fn gather(alloc: Global, subst: &Bindings, at: usize, stack: &mut Stack) -> Result<(), Memory>
     requires { IsInnermost at stack.old.frames.items }
     ensures { OnOk result ((w : World) (more : Bool) (u : Used) (r : Ran) →
         resumed w stack.new.frames.items r ≡ resumed w stack.old.frames.items (marked (Answered subst.now more) u r)) }
@@ -218,13 +221,18 @@ fn take_copy(
     ensures { OnOk result ((w : World) (more : Bool) (u : Used) (r : Ran) →
         gathered_by w collector.new r ≡ gathered_by w collector.old (marked (Answered subst.now more) u r)) }
 {
-    let solution = collector.template.apply(alloc, subst.subst())?.numbered(alloc)?;
+    let solution = collector
+        .template
+        .apply(alloc, subst.subst())?
+        .numbered(alloc)?;
     work.spend(&solution)?;
     let fresh = solution.first_free()?;
     if collector.next > u64::MAX - fresh {
         return Err(Memory);
     }
-    collector.copies.push(solution.rename(alloc, collector.next)?)?;
+    collector
+        .copies
+        .push(solution.rename(alloc, collector.next)?)?;
     collector.next += fresh;
     Ok(())
 }

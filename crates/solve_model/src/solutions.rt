@@ -68,11 +68,7 @@ fn is_caret(node: &Node) -> bool
 }
 
 // The list of a goal's free variables, and the goal behind the leading V^.
-pub(crate) fn witness(
-    alloc: Global,
-    template: &Term,
-    goal: &Term,
-) -> Result<(Term, Term), Memory>
+pub(crate) fn witness(alloc: Global, template: &Term, goal: &Term) -> Result<(Term, Term), Memory>
     ensures witness { IfOk result (λ p. p.0 ≡ witness_of template.now goal.now) }
     ensures goal { IfOk result (λ p. p.1 ≡ behind_carets goal.now) }
 {
@@ -113,11 +109,7 @@ fn parts(alloc: Global, solution: &Term) -> Result<(Term, Term), Memory>
 }
 
 // The solutions, each with its key.
-fn keyed(
-    alloc: Global,
-    solutions: &[Term],
-    work: &mut Work,
-) -> Result<Vec<(Term, Term)>, Memory>
+fn keyed(alloc: Global, solutions: &[Term], work: &mut Work) -> Result<Vec<(Term, Term)>, Memory>
     ensures { IfOk result (λ v. v.items ≡ map keyed_of solutions.now) }
 {
     let mut all = Vec::new(alloc);
@@ -156,10 +148,7 @@ fn is_other(group: &[(Term, Term)], key: &Term) -> bool
 }
 
 // The solutions of one key together, the last group first and in each the last solution first.
-fn grouped(
-    alloc: Global,
-    solutions: Vec<(Term, Term)>,
-) -> Result<Vec<List<(Term, Term)>>, Memory>
+fn grouped(alloc: Global, solutions: Vec<(Term, Term)>) -> Result<Vec<List<(Term, Term)>>, Memory>
     ensures { IfOk result (λ v. groups_of v.items ≡ grouped_of solutions.items) }
 {
     let mut rest = solutions;

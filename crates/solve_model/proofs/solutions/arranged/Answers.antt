@@ -1,4 +1,4 @@
-use Rattle.std.proofs.Common.{List, ap, ◌∙◌}
+use Rattle.std.proofs.Common.{ap, ◌∙◌}
 use Rattle.std.specs.List.{dedup}
 use Rattle.std.specs.Ordering.{eq_by_cmp}
 use Rattle.std.proofs.lemmas.List.Filters.{dedup_is}

@@ -1,4 +1,4 @@
-use Rattle.std.proofs.Common.{List, [], ◌∷◌, ◌++◌, map, reverse, ap, arith, ◌∙◌}
+use Rattle.std.proofs.Common.{List, [], ◌∷◌, map, reverse, ap, arith, ◌∙◌}
 use Rattle.std.proofs.lemmas.List.{map-append}
 use Rattle.prims_tree.specs.Views.{offer_of}
 use Rattle.builtin_table.specs.Solutions.{Keyed, group_offer}
