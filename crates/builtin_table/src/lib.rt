@@ -4,6 +4,7 @@
 
 mod errors;
 mod functions;
+mod outside;
 mod row;
 mod standard;
 mod table;
@@ -13,6 +14,7 @@ pub use errors::{
     representation_error, resource_error, syntax_error, type_error,
 };
 pub use functions::{Binary, Fault, Relation, Unary};
+pub use outside::reaches_outside;
 pub use row::{Class, Row};
 pub use table::Table;
 

@@ -1,5 +1,10 @@
 pub mod Collecting
+pub mod Guarded
+pub mod Instances
 pub mod Joining
+pub mod Linking
 pub mod Passing
 pub mod Reading
+pub mod Solving
+pub mod Sound
 pub mod Walking

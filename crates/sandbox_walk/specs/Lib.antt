@@ -2,4 +2,5 @@ pub mod Passes
 pub mod Pending
 pub mod Seen
 pub mod Shown
+pub mod Sound
 pub mod Verdict

@@ -6,6 +6,7 @@
 
 mod found;
 mod kinds;
+mod laws;
 mod open;
 mod reach;
 mod refusal;
@@ -15,6 +16,7 @@ mod texts;
 mod unsafe_goal;
 mod verdict;
 
+pub use laws::passed_goals_stay_inside;
 pub use unsafe_goal::Unsafe;
 pub use verdict::{Passed, check};
 

@@ -2,8 +2,10 @@ pub mod Choosing
 pub mod ClashLemmas
 pub mod Dropped
 pub mod MatchLemmas
+pub mod Prompts
 pub mod Relate
 pub mod Resume
 pub mod RowLemmas
 pub mod RunLaws
 pub mod Stepping
+pub mod Talking

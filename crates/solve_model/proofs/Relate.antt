@@ -1,14 +1,15 @@
 -- If two runners are related, so are the steps over them. One induction over the table of steps serves every law about runs.
-use Rattle.std.proofs.Common.{◌≡◌, ℕ, suc, Bool, true, false, ◌||◌, ◌==◌, List, [], ◌∷◌, map, if◌then◌else◌, Option, Some, None, refl, subst, sym}
+use Rattle.std.proofs.Common.{◌≡◌, ℕ, suc, Bool, true, false, ◌||◌, ◌==◌, List, [], ◌∷◌, map, if◌then◌else◌, Option, Some, None, slice_get, refl, subst, sym}
 use Rattle.term_core.specs.declared.pi.Pi.{Pi}
 use Rattle.term_core.specs.Tree.{Tree}
 use Rattle.term_core.specs.Parts.{arguments_of}
 use Rattle.term_core.specs.Substitution.{apply}
 use Rattle.term_core.specs.Unifier.{mgu}
 use Rattle.program.specs.Clauses.{Clause, clauses_of}
-use Rattle.solve_model.specs.Goals.{Row, Succeeds, Fails, Cuts, Both, Either, IfElse, Test, Differ, Call, Catch, Throw, Predicate, row_of, Ready, Runs, Throws, ready, with_arguments}
+use Rattle.solve_model.specs.Goals.{Row, Succeeds, Fails, Cuts, Both, Either, IfElse, Test, Differ, Call, Catch, Throw, Output, Input, Predicate, row_of, Ready, Runs, Throws, ready, with_arguments, unknown_predicate}
+use Rattle.builtin_table.specs.Outside.{reaches_outside}
 use Rattle.builtin_table.specs.Primitives.{Outcome, Offers, Ball, Unknown}
-use Rattle.solve_model.specs.Run.{World, Bindings, Item, Goal, Commit, ExitCatch, End, Failed, Cut, Thrown, Waits, Spent, Outside, Place, Used, Ran, Runner, Branch, ends, after, at_failed, at_cut, at_condition, at_catch, cut_to, in_order, if_ready, performed, called, locally, branched, differs, recovered_by, caught, goal_step, item_step, some_left}
+use Rattle.solve_model.specs.Run.{World, Bindings, Item, Goal, Commit, ExitCatch, End, Failed, Cut, Thrown, Waits, Spent, Outside, Place, Used, Ran, Runner, Branch, ends, after, at_failed, at_cut, at_condition, at_catch, cut_to, in_order, if_ready, Told, Asked, marked, one_reply, if_replied, offered, reply_offer, throws, undefined, performed, called, locally, branched, differs, recovered_by, caught, goal_step, item_step, some_left}
 
 -- what is done at an end passes on a run that stopped for want of steps or of a reply
 pub record PassesStops (k : End → Used → Ran) : Type 0 where
@@ -28,6 +29,9 @@ NotWaits (Outside i) = Unit {0}
 pub record IsKept (R : Used → Ran → Ran → Type 0) (w w' : World) : Type 0 where
   pub at_end : (e : End) → NotWaits e → (u : Used) → R u (ends e u) (ends e u)
   pub at_after : (u : Used) (a a' : Ran) (k k' : End → Used → Ran) → R u a a' → PassesStops k → PassesStops k' → ((e : End) → NotWaits e → (v : Used) → R v (k e v) (k' e v)) → R u (after a k) (after a' k')
+  pub at_told : (t : Tree) (u : Used) (a a' : Ran) → R u a a' → R u (marked (Told t) u a) (marked (Told t) u a')
+  -- a prompt, and what is done with a reply
+  pub at_asked : (q : Tree) (u : Used) (go go' : Tree → Ran) → ((t : Tree) → R (one_reply u) (go t) (go' t)) → R u (marked (Asked q) u (if_replied (slice_get w.replies u.replies) u go)) (marked (Asked q) u (if_replied (slice_get w'.replies u.replies) u go'))
   pub same_clauses : w'.clauses ≡ w.clauses
   pub same_primitive : w'.primitive ≡ w.primitive
 
@@ -114,10 +118,17 @@ module _ (R : Used → Ran → Ran → Type 0) (w w' : World) (kept : IsKept R w
     locally_kept t is p o u =
         kept.at_after u _ _ _ _ (related _ _ o u) (cut_passes p.level) (cut_passes p.level) (cut_kept p.level)
 
+    undefined_kept : (i : Pi) (is : List Item) (u : Used) → R u (undefined i is u) (undefined i is u)
+    undefined_kept i is u = at (reaches_outside i)
+      where
+        at : (b : Bool) → R u (elim b as (λ x. Ran) [ true ↦ ends (Outside i) u | false ↦ throws (unknown_predicate i) is u ]) (elim b as (λ x. Ran) [ true ↦ ends (Outside i) u | false ↦ throws (unknown_predicate i) is u ])
+        at true = kept.at_end (Outside i) tt u
+        at false = kept.at_end _ tt u
+
     performed_kept : (q : Outcome) (i : Pi) (is : List Item) (p : Place) (o : Bool) (u : Used) → R u (performed r q i is p o u) (performed r' q i is p o u)
     performed_kept (Offers rs) i is p o u = in_order_kept _ o u
     performed_kept (Ball b) i is p o u = kept.at_end _ tt u
-    performed_kept Unknown i is p o u = kept.at_end _ tt u
+    performed_kept Unknown i is p o u = undefined_kept i is u
 
     called_kept : (cs : List Clause) (i : Pi) (t : Tree) (is : List Item) (p : Place) (o : Bool) (u : Used) → R u (called w r cs i t is p o u) (called w' r' cs i t is p o u)
     called_kept [] i t is p o u =
@@ -159,6 +170,9 @@ module _ (R : Used → Ran → Ran → Type 0) (w w' : World) (kept : IsKept R w
     goal_kept (Catch g c t) l cut is p o u =
         if_ready_kept (ready (apply p.subst g)) is u _ _ (λ h. caught_kept h c t is p o u)
     goal_kept (Throw b) l cut is p o u = kept.at_end _ tt u
+    goal_kept (Output t) l cut is p o u = kept.at_told (apply p.subst t) u _ _ (related is p o u)
+    goal_kept (Input q t) l cut is p o u =
+        kept.at_asked (apply p.subst q) u _ _ (λ b. in_order_kept (offered (reply_offer b t p.next ∷ []) is p) o (one_reply u))
     goal_kept (Predicate i t) l cut is p o u =
         subst (λ (cs : List Clause). R u (called w r (clauses_of i w.clauses) i t is p o u) (called w' r' (clauses_of i cs) i t is p o u)) (sym kept.same_clauses) (called_kept (clauses_of i w.clauses) i t is p o u)
 

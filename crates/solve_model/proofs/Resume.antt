@@ -125,18 +125,22 @@ answered w t fs ms ns is p o u a e d h =
     rw (h, d, e, run_of_none w p o u, resumed_marked w fs (Answered p.subst o) u (ends Failed u))
     (traced_marked t ms (Answered p.subst o) u (resumed w fs (ends Failed u)))
 
+-- a mark that is shown, and then the rest
+pub marked_shown : (w : World) (t : Tree) (fs : List Frame) (ms ns : List (ℕ × TraceMark)) (m : run.Mark) (u : Used) (r : Ran) → ns ≡ ms ++ (u.steps, mark_shown t m) ∷ [] → traced_after t ns (resumed w fs r) ≡ traced_after t ms (resumed w fs (marked m u r))
+marked_shown w t fs ms ns m u r h = rw (h, resumed_marked w fs m u r) (traced_marked t ms m u (resumed w fs r))
+
 -- ---- the whole search
 
 pub spent : (w : World) (t : Tree) (fs : List Frame) (ms : List (ℕ × TraceMark)) (is : List Item) (i : Item) (js : List Item) (p : Place) (o : Bool) (u : Used) → is ≡ i ∷ js → w.limit ≤ u.steps → traced_after t ms (resumed w fs (ends run.Spent u)) ≡ traced_after t ms (resumed w fs (runs w is p o u))
 spent w t fs ms is i js p o u e h =
     ap (λ (x : Ran). traced_after t ms (resumed w fs x)) (sym (run_at_limit w is i js p o u e h))
 
-pub stepped : (w : World) (t : Tree) (fs : List Frame) (ms : List (ℕ × TraceMark)) (is : List Item) (i : Item) (js : List Item) (p : Place) (o : Bool) (n : ℕ) (r : Ran) → is ≡ i ∷ js → n < w.limit → r ≡ resumed w fs (item_step w (runs w) i js p o (used_of (n + 1))) → traced_after t ms r ≡ traced_after t ms (resumed w fs (runs w is p o (used_of n)))
-stepped w t fs ms is i js p o n r e h d =
+pub stepped : (w : World) (t : Tree) (fs : List Frame) (ms : List (ℕ × TraceMark)) (is : List Item) (i : Item) (js : List Item) (p : Place) (o : Bool) (n k : ℕ) (r : Ran) → is ≡ i ∷ js → n < w.limit → r ≡ resumed w fs (item_step w (runs w) i js p o (used_of (n + 1) k)) → traced_after t ms r ≡ traced_after t ms (resumed w fs (runs w is p o (used_of n k)))
+stepped w t fs ms is i js p o n k r e h d =
     ap (traced_after t ms)
     (d
-    ∙ ap (λ (m : ℕ). resumed w fs (item_step w (runs w) i js p o (used_of m))) (let x : n + 1 ≡ suc n = omega arith in x)
-    ∙ ap (resumed w fs) (sym (run_first w is i js p o (used_of n) e h)))
+    ∙ ap (λ (m : ℕ). resumed w fs (item_step w (runs w) i js p o (used_of m k))) (let x : n + 1 ≡ suc n = omega arith in x)
+    ∙ ap (resumed w fs) (sym (run_first w is i js p o (used_of n k) e h)))
 
 pub started : (w : World) (t : Tree) (r : Ran) → traced_after t [] (resumed w [] r) ≡ traced t r
 unfolding resumed
@@ -159,8 +163,8 @@ nothing_kept (x ∷ xs) n e h = absurd (omega (arith, e, h))
 
 -- a query whose goal is ready in this way
 abbrev asked : World → (g t : Tree) → Ready → Ran
-asked w g t (Runs h) = after (runs w (Goal h 1 false ∷ []) (start g t) false (used_of 0)) (at_cut 1)
-asked w g t (Throws b) = ends (run.Thrown (numbered b) 0) (used_of 0)
+asked w g t (Runs h) = after (runs w (Goal h 1 false ∷ []) (start g t) false (used_of 0 0)) (at_cut 1)
+asked w g t (Throws b) = ends (run.Thrown (numbered b) 0) (used_of 0 0)
 
 query_ready : (w : World) (g t : Tree) (r : Ready) → ready g ≡ r → asked w g t r ≡ query w g t
 unfolding query
@@ -173,12 +177,12 @@ query_ready w g t r e = ap (asked w g t) (sym e) ∙ go (ready g)
     go (Runs h) = refl
     go (Throws b) = refl
 
-pub asked_throws : (w : World) (g t b ball : Tree) (fs : List Frame) (ms : List (ℕ × TraceMark)) → ready g ≡ Throws b → ball ≡ numbered b → fs ≡ [] → ms ≡ [] → traced_after t ms (resumed w fs (ends (run.Thrown ball 0) (used_of 0))) ≡ traced t (query w g t)
+pub asked_throws : (w : World) (g t b ball : Tree) (fs : List Frame) (ms : List (ℕ × TraceMark)) → ready g ≡ Throws b → ball ≡ numbered b → fs ≡ [] → ms ≡ [] → traced_after t ms (resumed w fs (ends (run.Thrown ball 0) (used_of 0 0))) ≡ traced t (query w g t)
 unfolding resumed
 asked_throws w g t b ball fs ms e h d k =
     rw (d, k, h) (ap (traced t) (query_ready w g t (Throws b) e))
 
-pub asked_runs : (w : World) (g t h : Tree) (fs : List Frame) (ms : List (ℕ × TraceMark)) (is : List Item) (p : Place) → ready g ≡ Runs h → fs ≡ frame.Cut 1 ∷ [] → ms ≡ [] → is ≡ Goal h 1 false ∷ [] → p ≡ start g t → traced_after t ms (resumed w fs (runs w is p false (used_of 0))) ≡ traced t (query w g t)
+pub asked_runs : (w : World) (g t h : Tree) (fs : List Frame) (ms : List (ℕ × TraceMark)) (is : List Item) (p : Place) → ready g ≡ Runs h → fs ≡ frame.Cut 1 ∷ [] → ms ≡ [] → is ≡ Goal h 1 false ∷ [] → p ≡ start g t → traced_after t ms (resumed w fs (runs w is p false (used_of 0 0))) ≡ traced t (query w g t)
 unfolding resumed
 asked_runs w g t h fs ms is p e d k i q =
     rw (d, k, i, q) (ap (traced t) (query_ready w g t (Runs h) e))

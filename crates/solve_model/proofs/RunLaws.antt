@@ -1,11 +1,11 @@
 -- The laws of runs: the depth doesn't matter where it is enough, a run of some items is the step over the run itself, and more steps or replies lengthen the marks.
-use Rattle.std.proofs.Common.{◌≡◌, ℕ, zero, suc, ◌+◌, ◌≤◌, ◌<◌, Bool, true, false, cond, List, [], ◌∷◌, ◌++◌, nat_le, refl, ap, arith, ◌⊎◌, inl, inr, subst, sym, append_assoc, append-nil, ◌∙◌}
+use Rattle.std.proofs.Common.{◌≡◌, ℕ, zero, suc, ◌+◌, ◌≤◌, ◌<◌, Bool, true, false, cond, List, [], ◌∷◌, ◌++◌, nat_le, slice_get, Option, Some, None, refl, ap, arith, ◌⊎◌, inl, inr, subst, sym, append_assoc, append-nil, ◌∙◌}
 use Rattle.std.proofs.lemmas.Bool.{lt-ltb, le-ltb, le-leb, lt-leb, cases_lt}
 use Rattle.std.proofs.lemmas.List.Elements.{filter-append}
 use Rattle.term_core.specs.Tree.{Tree}
 use Rattle.term_core.specs.Variables.{numbered}
 use Rattle.solve_model.specs.Goals.{Ready, Runs, Throws, ready}
-use Rattle.solve_model.specs.Run.{World, Item, Goal, End, Failed, Thrown, Waits, Spent, Mark, Place, Used, Ran, Runner, ends, after, at_cut, item_step, one_more, taken, run, start, unused, query}
+use Rattle.solve_model.specs.Run.{World, Item, Goal, End, Failed, Thrown, Waits, Spent, Mark, Told, Asked, marked, one_reply, if_replied, Place, Used, Ran, Runner, ends, after, at_cut, item_step, one_more, taken, run, start, unused, query}
 use Rattle.solve_model.specs.Laws.{Begins, IsStopped, widened, MoreOnlyAdds, marks_within, MarksStand}
 use Rattle.solve_model.proofs.Relate.{PassesStops, NotWaits, IsKept, item_kept, cut_kept, cut_passes}
 
@@ -62,10 +62,28 @@ at_stop P k (End.Thrown b l) v ps h g = g tt
 at_stop P k Spent v ps h g = g tt
 at_stop P k (End.Outside i) v ps h g = g tt
 
+marked_timed : (n : ℕ) (m : Mark) (u : Used) (a : Ran) → IsTimed n u a → IsTimed n u (marked m u a)
+marked_timed n m u a h = record {
+  rises = h.rises;
+  from = (omega arith, h.from);
+  within = h.within;
+  up_to = λ b. (b, h.up_to b);
+}
+
+-- a reply is no step
+replied_timed : (n : ℕ) (u : Used) (a : Ran) → IsTimed n (one_reply u) a → IsTimed n u a
+replied_timed n u a h = record { rises = h.rises; from = h.from; within = h.within; up_to = h.up_to }
+
+if_replied_timed : (n : ℕ) (r : Option Tree) (u : Used) (go : Tree → Ran) → ((t : Tree) → IsTimed n (one_reply u) (go t)) → IsTimed n u (if_replied r u go)
+if_replied_timed n (Some t) u go h = replied_timed n u (go t) (h t)
+if_replied_timed n None u go h = ends_timed n Waits u
+
 timed_kept : (w : World) (n : ℕ) → IsKept (λ u a b. IsTimed n u a) w w
 timed_kept w n = record {
   at_end = λ e x u. ends_timed n e u;
   at_after = λ u a a' k k' h ps ps' step. after_timed n u a k h (at_stop (IsTimed n a.used) k a.end a.used ps (ends_timed n Waits a.used) (λ x. step a.end x a.used));
+  at_told = λ t u a a' h. marked_timed n (Told t) u a h;
+  at_asked = λ q u go go' h. marked_timed n (Asked q) u _ (if_replied_timed n (slice_get w.replies u.replies) u go h);
   same_clauses = refl;
   same_primitive = refl;
 }
@@ -118,6 +136,10 @@ pub record GoesOn (S : End → Type 0) (n : ℕ) (a b : Ran) : Type 0 where
 
 abbrev pub IsLonger : (End → Type 0) → ℕ → Ran → Ran → Type 0
 IsLonger S n a b = (a ≡ b) ⊎ GoesOn S n a b
+
+-- the second reply is the first, or there was none, for want of which a run may stop
+abbrev pub IsFurther : (End → Type 0) → Option Tree → Option Tree → Type 0
+IsFurther S r r' = (r' ≡ r) ⊎ ((r ≡ None) × S Waits)
 
 -- what is done after a run that stopped is nothing
 stopped_after : (a : Ran) (k : End → Used → Ran) → PassesStops k → IsStopped a.end → ((after a k).end ≡ a.end) × ((after a k).marks ≡ a.marks)
@@ -178,11 +200,41 @@ module _ (S : End → Type 0) (sub : (e : End) → S e → IsStopped e) (n : ℕ
       go (inl e) both = subst (λ (x : Ran). IsLonger S n (after x k) (after b k')) (sym e) (longer_within b k k' both.1)
       go (inr s) both = inr (longer_further l a b k k' s ps both.0)
 
-  module _ (w w' : World) (clauses : w'.clauses ≡ w.clauses) (primitives : w'.primitive ≡ w.primitive) (limits : w.limit ≤ w'.limit) (spent : w.limit < w'.limit → S Spent) (limit : w.limit ≡ n) where
+  longer_marked : (m : Mark) (u : Used) (a b : Ran) → IsLonger S n a b → IsLonger S n (marked m u a) (marked m u b)
+  longer_marked m u a b (inl e) = inl (ap (marked m u) e)
+  longer_marked m u a b (inr g) = inr (record {
+    stopped = g.stopped;
+    more = g.more;
+    is = ap (λ (x : Marks). (u.steps, m) ∷ x) g.is;
+    later = g.later;
+  })
+
+  grows_marked : (l m : ℕ) (k : Mark) (u : Used) (a b : Ran) → Grows l m u a b → Grows l m u (marked k u a) (marked k u b)
+  grows_marked l m k u a b h g = (marked_timed l k u b (h g).0, longer_marked k u a b (h g).1)
+
+  grows_replied : (l m : ℕ) (u : Used) (r r' : Option Tree) (go go' : Tree → Ran) → IsFurther S r r' → ((t : Tree) → Grows l m (one_reply u) (go t) (go' t)) → Grows l m u (if_replied r u go) (if_replied r' u go')
+  grows_replied l m u (Some t) r' go go' (inl e) h g =
+      subst (λ x. IsTimed l u (if_replied x u go') × IsLonger S n (go t) (if_replied x u go')) (sym e) (replied_timed l u (go' t) (h t g).0, (h t g).1)
+  grows_replied l m u (Some t) r' go go' (inr x) h g = cc
+  grows_replied l m u None None go go' x h g = (ends_timed l Waits u, inl refl)
+  grows_replied l m u None (Some t) go go' (inl e) h g = cc
+  grows_replied l m u None (Some t) go go' (inr x) h g = (
+    replied_timed l u (go' t) (h t g).0,
+    inr (record {
+      stopped = x.1;
+      more = (go' t).marks;
+      is = refl;
+      later = λ e. cc;
+    }),
+  )
+
+  module _ (w w' : World) (clauses : w'.clauses ≡ w.clauses) (primitives : w'.primitive ≡ w.primitive) (replies : (k : ℕ) → IsFurther S (slice_get w.replies k) (slice_get w'.replies k)) (limits : w.limit ≤ w'.limit) (spent : w.limit < w'.limit → S Spent) (limit : w.limit ≡ n) where
     grows_kept : (m : ℕ) → IsKept (Grows w'.limit m) w w'
     grows_kept m = record {
       at_end = λ e x u. grows_ends w'.limit m e u;
       at_after = λ u a b k k' h ps ps' step. grows_after w'.limit m u a b k k' h ps ps' step;
+      at_told = λ t u a b h. grows_marked w'.limit m (Told t) u a b h;
+      at_asked = λ q u go go' h. grows_marked w'.limit m (Asked q) u _ _ (grows_replied w'.limit m u (slice_get w.replies u.replies) (slice_get w'.replies u.replies) go go' (replies u.replies) h);
       same_clauses = clauses;
       same_primitive = primitives;
     }
@@ -238,7 +290,7 @@ same_run n a b (inr g) = absurd g.stopped
 -- a depth that is enough for the limit is as good as any other
 pub depth_alike : (w : World) (d d' m : ℕ) → w.limit ≤ d + m → w.limit ≤ d' + m → (is : List Item) (p : Place) (o : Bool) (u : Used) → m ≤ u.steps → run w d is p o u ≡ run w d' is p o u
 depth_alike w d d' m h h' is p o u g =
-    same_run w.limit _ _ ((run_grows_on NoEnd (λ e x. absurd x) w.limit w w refl refl (omega arith) (λ k. absurd (omega (arith, k))) refl d d' m h h' is p o u g).1)
+    same_run w.limit _ _ ((run_grows_on NoEnd (λ e x. absurd x) w.limit w w refl refl (λ k. inl refl) (omega arith) (λ k. absurd (omega (arith, k))) refl d d' m h h' is p o u g).1)
 
 -- The run of a query's limit: a step is taken, and the rest is a run again. So the depth may be forgotten.
 pub run_step : (w : World) (i : Item) (is : List Item) (p : Place) (o : Bool) (u : Used) → run w w.limit (i ∷ is) p o u ≡ taken w (run w w.limit) i is p o u
@@ -249,9 +301,9 @@ run_step w i is p o u =
 -- ---- what users hear of
 
 -- an end that isn't a failure of the query's own cut is passed on
-query_longer : (S : End → Type 0) (sub : (e : End) → S e → IsStopped e) (w w' : World) → w'.clauses ≡ w.clauses → w'.primitive ≡ w.primitive → w.limit ≤ w'.limit → (w.limit < w'.limit → S Spent) → (g t : Tree) → IsTimed w'.limit unused (query w' g t) × IsLonger S w.limit (query w g t) (query w' g t)
+query_longer : (S : End → Type 0) (sub : (e : End) → S e → IsStopped e) (w w' : World) → w'.clauses ≡ w.clauses → w'.primitive ≡ w.primitive → ((k : ℕ) → IsFurther S (slice_get w.replies k) (slice_get w'.replies k)) → w.limit ≤ w'.limit → (w.limit < w'.limit → S Spent) → (g t : Tree) → IsTimed w'.limit unused (query w' g t) × IsLonger S w.limit (query w g t) (query w' g t)
 unfolding query
-query_longer S sub w w' clauses primitives limits spent g t = go (ready g)
+query_longer S sub w w' clauses primitives replies limits spent g t = go (ready g)
   where
     go : (r : Ready) → IsTimed w'.limit unused (elim r as (λ x. Ran) [
       | Runs h ↦ after (run w' w'.limit (Goal h 1 false ∷ []) (start g t) false unused) (at_cut 1)
@@ -264,14 +316,20 @@ query_longer S sub w w' clauses primitives limits spent g t = go (ready g)
       | Throws b ↦ ends (Thrown (numbered b) 0) unused
     ])
     go (Runs h) =
-        (grows_kept S sub w.limit w w' clauses primitives limits spent refl 0).at_after unused _ _ (at_cut 1) (at_cut 1)
-        (run_grows_on S sub w.limit w w' clauses primitives limits spent refl w.limit w'.limit 0 (omega arith) (omega arith) (Goal h 1 false ∷ []) (start g t) false unused)
+        (grows_kept S sub w.limit w w' clauses primitives replies limits spent refl 0).at_after unused _ _ (at_cut 1) (at_cut 1)
+        (run_grows_on S sub w.limit w w' clauses primitives replies limits spent refl w.limit w'.limit 0 (omega arith) (omega arith) (Goal h 1 false ∷ []) (start g t) false unused)
         (cut_passes 1) (cut_passes 1)
-        (cut_kept (Grows S sub w.limit w'.limit 0) w w' (grows_kept S sub w.limit w w' clauses primitives limits spent refl 0) 1) (omega arith)
+        (cut_kept (Grows S sub w.limit w'.limit 0) w w' (grows_kept S sub w.limit w w' clauses primitives replies limits spent refl 0) 1) (omega arith)
     go (Throws b) = (ends_timed w'.limit _ unused, inl refl)
 
+-- with more replies behind the others
+further_reply : (S : End → Type 0) (rs ts : List Tree) → S Waits → (k : ℕ) → IsFurther S (slice_get rs k) (slice_get (rs ++ ts) k)
+further_reply S [] ts s k = inr (refl, s)
+further_reply S (r ∷ rs) ts s zero = inl refl
+further_reply S (r ∷ rs) ts s (suc k) = further_reply S rs ts s k
+
 pub more_only_adds : MoreOnlyAdds
-more_only_adds w n ts g t = go (query_longer IsStopped (λ e x. x) w (widened n ts w) refl refl (omega arith) (λ k. inr refl) g t).1
+more_only_adds w n ts g t = go (query_longer IsStopped (λ e x. x) w (widened n ts w) refl refl (further_reply IsStopped w.replies ts (inl refl)) (omega arith) (λ k. inr refl) g t).1
   where
     go : IsLonger IsStopped w.limit (query w g t) (query (widened n ts w) g t) → (query (widened n ts w) g t ≡ query w g t) ⊎ (IsStopped (query w g t).end × Begins (query w g t).marks (query (widened n ts w) g t).marks)
     go (inl e) = inl (sym e)
@@ -290,8 +348,8 @@ marks_within-none n (m ∷ ms) h =
 
 pub marks_stand : MarksStand
 marks_stand w n g t =
-    go (query_longer (λ e. e ≡ Spent) (λ e x. inr x) w (record w { limit = w.limit + n }) refl refl (omega arith) (λ k. refl) g t).1
-    (query_longer NoEnd (λ e x. absurd x) w w refl refl (omega arith) (λ k. absurd (omega (arith, k))) g t).0
+    go (query_longer (λ e. e ≡ Spent) (λ e x. inr x) w (record w { limit = w.limit + n }) refl refl (λ k. inl refl) (omega arith) (λ k. refl) g t).1
+    (query_longer NoEnd (λ e x. absurd x) w w refl refl (λ k. inl refl) (omega arith) (λ k. absurd (omega (arith, k))) g t).0
   where
     go : IsLonger (λ e. e ≡ Spent) w.limit (query w g t) (query (record w { limit = w.limit + n }) g t) → IsTimed w.limit unused (query w g t) → (query w g t).marks ≡ marks_within w.limit (query (record w { limit = w.limit + n }) g t).marks
     go (inl e) timed =

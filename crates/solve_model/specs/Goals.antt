@@ -33,6 +33,10 @@ pub data Row : Type 0 where
   Catch : Tree → Tree → Tree → Row
   -- throw/1
   Throw : Tree → Row
+  -- pengine_output/1
+  Output : Tree → Row
+  -- pengine_input/2: the prompt, and the term that the reply is unified with
+  Input : Tree → Tree → Row
   -- a predicate of the program, or a primitive, by the goal
   Predicate : Pi → Tree → Row
 
@@ -74,6 +78,7 @@ one_rows a =
     ∷ (codes "once", Test a true_goal fail_goal)
     ∷ (codes "ignore", Test a true_goal true_goal)
     ∷ (codes "throw", Throw a)
+    ∷ (codes "pengine_output", Output a)
     ∷ []
 
 unfoldable pub row_of_one : List ℕ → Tree → Row
@@ -90,6 +95,7 @@ two_rows a b =
     ∷ (codes "->", IfElse a b fail_goal)
     ∷ (codes "\\=", Differ a b)
     ∷ (codes "forall", Test (counterexample a b) fail_goal true_goal)
+    ∷ (codes "pengine_input", Input a b)
     ∷ []
 
 unfoldable pub row_of_two : List ℕ → Tree → Tree → Row

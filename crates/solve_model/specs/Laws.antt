@@ -1,7 +1,7 @@
 -- Laws of queries under other limits.
-use Rattle.std.specs.Prelude.{◌≡◌, ℕ, ◌+◌, ◌⊎◌, List, ◌++◌, filter, nat_le}
+use Rattle.std.specs.Prelude.{◌≡◌, ◌≢◌, ℕ, suc, ◌+◌, ◌≤◌, Bool, true, false, ◌⊎◌, List, ◌++◌, filter, length, nat_le}
 use Rattle.term_core.specs.Tree.{Tree}
-use Rattle.solve_model.specs.Run.{World, Mark, End, Waits, Spent, query}
+use Rattle.solve_model.specs.Run.{World, Mark, Answered, Told, Asked, Ran, End, Waits, Spent, query}
 
 -- the world with this many more steps, and with these replies after the others
 abbrev pub widened : ℕ → List Tree → World → World
@@ -30,3 +30,27 @@ abbrev pub MarksStand : Type 0
 MarksStand =
     (w : World) (n : ℕ) (g t : Tree) →
     (query w g t).marks ≡ marks_within w.limit (query (record w { limit = w.limit + n }) g t).marks
+
+abbrev pub is_prompt : Mark → Bool
+is_prompt (Asked t) = true
+is_prompt (Told t) = false
+is_prompt (Answered s more) = false
+
+-- how many prompts there are
+abbrev pub prompts : List (ℕ × Mark) → ℕ
+prompts ms = length (filter (λ m. is_prompt m.1) ms)
+
+-- it has taken all of n replies, and asked for one more
+abbrev pub AsksOneMore : ℕ → Ran → Type 0
+AsksOneMore n r = (r.used.replies ≡ n) × (prompts r.marks ≡ suc n)
+
+-- it has asked for each of the replies that it took, of n
+abbrev pub AsksForEach : ℕ → Ran → Type 0
+AsksForEach n r = (r.used.replies ≤ n) × (prompts r.marks ≡ r.used.replies)
+
+-- A query asks for each reply that it takes; where it waits, it has taken all replies and asked for one more.
+abbrev pub PromptsTakeReplies : Type 0
+PromptsTakeReplies =
+    (w : World) (g t : Tree) →
+    ((query w g t).end ≡ Waits → AsksOneMore (length w.replies) (query w g t))
+    × ((query w g t).end ≢ Waits → AsksForEach (length w.replies) (query w g t))

@@ -31,6 +31,8 @@ row_as t (row.Differ a b) = goals.Differ a b
 row_as t (row.Call g added) = goals.Call g added.items
 row_as t (row.Catch a b c) = goals.Catch a b c
 row_as t (row.Throw a) = goals.Throw a
+row_as t (row.Output a) = goals.Output a
+row_as t (row.Input a b) = goals.Input a b
 row_as t row.Predicate = goals.Predicate (indicator_of t) t
 
 abbrev pub ready_as : Ready → goals.Ready

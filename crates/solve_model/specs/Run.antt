@@ -1,14 +1,15 @@
 -- Depth-first resolution (ISO 13211-1, 7.7). A run takes the first item of its list again and again; each item taken is one step.
-use Rattle.std.specs.Prelude.{ℕ, zero, suc, ◌+◌, min, max, Bool, true, false, ◌||◌, ◌==◌, List, [], ◌∷◌, ◌++◌, map, nat_lt, if◌then◌else◌, Option, Some, None}
+use Rattle.std.specs.Prelude.{ℕ, zero, suc, ◌+◌, min, max, Bool, true, false, ◌||◌, ◌==◌, List, [], ◌∷◌, ◌++◌, map, nat_lt, if◌then◌else◌, Option, Some, None, length, slice_get}
 use Rattle.term_core.specs.declared.pi.Pi.{Pi}
 use Rattle.term_core.specs.Tree.{Tree, variable}
 use Rattle.term_core.specs.Parts.{arguments_of}
-use Rattle.term_core.specs.Variables.{renamed, numbered, first_free}
+use Rattle.term_core.specs.Variables.{renamed, numbered, variables, first_free}
 use Rattle.term_core.specs.Substitution.{apply}
 use Rattle.term_core.specs.Unifier.{mgu}
 use Rattle.program.specs.Clauses.{Clause, clauses_of}
-use Rattle.solve_model.specs.Goals.{Row, Succeeds, Fails, Cuts, Both, Either, IfElse, Test, Differ, Call, Catch, Throw, Predicate, row_of, true_goal, fail_goal, Ready, Runs, Throws, ready, with_arguments, unbound_goal, unknown_predicate}
-use Rattle.builtin_table.specs.Primitives.{Offer, Outcome, Offers, Ball, Unknown}
+use Rattle.solve_model.specs.Goals.{Row, Succeeds, Fails, Cuts, Both, Either, IfElse, Test, Differ, Call, Catch, Throw, Output, Input, Predicate, row_of, true_goal, fail_goal, Ready, Runs, Throws, ready, with_arguments, unbound_goal, unknown_predicate}
+use Rattle.builtin_table.specs.Primitives.{Offer, Outcome, Offers, Ball, Unknown, copy}
+use Rattle.builtin_table.specs.Outside.{reaches_outside}
 
 -- a substitution: for each variable bound, its number and its term
 abbrev pub Bindings : Type 0
@@ -179,11 +180,15 @@ offered (r ∷ rs) is p =
       | Some s ↦ offer_branch r is p s ∷ offered rs is p
     ]
 
--- a primitive by what it gives; where no primitive has the indicator, the predicate is unknown
+-- a predicate that has no clause and is no primitive: it reaches outside, or it is unknown
+abbrev pub undefined : Pi → List Item → Used → Ran
+undefined i is u = elim (reaches_outside i) [ true ↦ ends (Outside i) u | false ↦ throws (unknown_predicate i) is u ]
+
+-- a primitive by what it gives
 abbrev pub performed : Runner → Outcome → Pi → List Item → Place → Bool → Used → Ran
 performed run (Offers rs) i is p o u = in_order run (offered rs is p) o u
 performed run (Ball b) i is p o u = throws b is u
-performed run Unknown i is p o u = throws (unknown_predicate i) is u
+performed run Unknown i is p o u = undefined i is u
 
 -- a call of a predicate by its clauses, in which a cut is local, or of a primitive where it has no clauses
 abbrev pub called : World → Runner → List Clause → Pi → Tree → List Item → Place → Bool → Used → Ran
@@ -234,6 +239,25 @@ abbrev pub thrown : Tree → Tree
 thrown (variable n) = unbound_goal
 thrown t = t
 
+-- one reply is taken; it isn't given back when the alternatives of its branch are run
+abbrev pub one_reply : Used → Used
+one_reply u = record u { replies = suc u.replies }
+
+-- goes on with the next reply, or waits for one
+abbrev pub if_replied : Option Tree → Used → (Tree → Ran) → Ran
+if_replied (Some r) u go = go r
+if_replied None u go = ends Waits u
+
+-- a copy of the reply, with new variables, is to be one with the term
+abbrev pub reply_offer : (reply term : Tree) → (next : ℕ) → Offer
+reply_offer r t next = record { pairs = (t, copy next r) ∷ []; fresh = length (variables r) }
+
+-- pengine_input/2 with a prompt under the substitution: the next of these replies is unified with the term
+abbrev pub prompted : List Tree → Runner → (prompt term : Tree) → List Item → Place → Bool → Used → Ran
+prompted replies run q t is p o u =
+    marked (Asked q) u
+    (if_replied (slice_get replies u.replies) u (λ r. in_order run (offered (reply_offer r t p.next ∷ []) is p) o (one_reply u)))
+
 -- one goal, by its row of the table
 unfoldable pub goal_step : World → Runner → Row → ℕ → Bool → List Item → Place → Bool → Used → Ran
 goal_step w run Succeeds l cut is p o u = run is p o u
@@ -250,6 +274,8 @@ goal_step w run (Call g ts) l cut is p o u =
 goal_step w run (Catch g c r) l cut is p o u =
     if_ready (ready (apply p.subst g)) is u (λ h. caught run h c r is p o u)
 goal_step w run (Throw b) l cut is p o u = throws (thrown (apply p.subst b)) is u
+goal_step w run (Output t) l cut is p o u = marked (Told (apply p.subst t)) u (run is p o u)
+goal_step w run (Input q t) l cut is p o u = prompted w.replies run (apply p.subst q) t is p o u
 goal_step w run (Predicate i t) l cut is p o u = called w run (clauses_of i w.clauses) i t is p o u
 
 unfoldable pub item_step : World → Runner → Item → List Item → Place → Bool → Used → Ran

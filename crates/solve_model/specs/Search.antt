@@ -16,6 +16,7 @@ use Rattle.solve_model.specs.declared.search.Choice.{Choice}
 use Rattle.solve_model.specs.declared.search.Catcher.{Catcher}
 use Rattle.solve_model.specs.declared.search.End.{End}
 use Rattle.solve_model.specs.declared.search.End.TheVariants as the_end
+use Rattle.solve_model.specs.declared.talk.Question.{Question}
 use Rattle.solve_model.specs.declared.search.Frame.{Frame}
 use Rattle.solve_model.specs.declared.search.Frame.TheVariants as frame
 use Rattle.solve_model.specs.declared.matching.Match.{Match}
@@ -46,9 +47,11 @@ end_of the_end.Failed = run.Failed
 end_of (the_end.Cut l) = run.Cut l
 end_of (the_end.Thrown b l) = run.Thrown b l
 end_of the_end.Spent = run.Spent
+end_of the_end.Waits = run.Waits
+end_of (the_end.Outside i) = run.Outside i
 
-abbrev pub used_of : ℕ → run.Used
-used_of n = record { steps = n; replies = 0 }
+abbrev pub used_of : (steps replies : ℕ) → run.Used
+used_of n k = record { steps = n; replies = k }
 
 -- a run of the world, whose depth is its limit
 abbrev pub runs : run.World → run.Runner
@@ -93,9 +96,15 @@ unfoldable pub resumed : run.World → List Frame → run.Ran → run.Ran
 resumed w [] r = r
 resumed w (f ∷ fs) r = run.after (resumed w fs r) (at_frame w f)
 
+abbrev pub asks : run.World → Question → run.Used → run.Ran
+asks w q u =
+    run.prompted w.replies (runs w) q.prompt q.term (items_of q.rest.items.items) (place_of q.rest.place) q.more u
+
 abbrev pub run_of : run.World → Now → run.Used → run.Ran
 run_of w (now.Runs b more) u = runs_branch w b more u
 run_of w (now.Ends e) u = run.ends (end_of e) u
+run_of w (now.Tells t b more) u = run.marked (run.Told t) u (runs_branch w b more u)
+run_of w (now.Asks q) u = asks w q u
 
 -- what comes next, and then the frames of one stack, is this run, and then the frames of another
 abbrev pub Leaves : run.World → (old new : Stack) → Now → run.Used → run.Ran → Type 0
@@ -129,4 +138,4 @@ traced_after template ms r = record {
 -- the whole run, of which a search has made a part: its marks, then those of what is left
 abbrev pub whole : run.World → (template : Tree) → Now → Search → Trace
 whole w template n s =
-    traced_after template s.marks (resumed w s.stack.frames.items (run_of w n (used_of s.steps)))
+    traced_after template s.marks (resumed w s.stack.frames.items (run_of w n (used_of s.steps s.replies)))

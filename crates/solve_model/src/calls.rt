@@ -6,7 +6,7 @@ ghost use Rattle.term_core.specs.Substitution.{apply};
 ghost use Rattle.builtin_table.specs.Primitives.{primitive};
 ghost use Rattle.program.specs.Clauses.{clauses_of};
 ghost use Rattle.program.specs.Kept.{clause_of};
-ghost use Rattle.solve_model.specs.Run.{World, Used, body_branch as body_branch_of, called as called_run, if_ready, in_order, locally as locally_run, offered, performed, throws as throws_run};
+ghost use Rattle.solve_model.specs.Run.{World, Used, body_branch as body_branch_of, called as called_run, if_ready, in_order, locally as locally_run, offered, performed, throws as throws_run, undefined as undefined_run};
 ghost use Rattle.solve_model.specs.Rows.{indicator_of, ready_as};
 ghost use Rattle.solve_model.specs.Search.{place_of, items_of, branch_of, chosen, runs, run_of, taken_results, Leaves};
 ghost use Rattle.solve_model.specs.Trace.{world_of};
@@ -19,6 +19,7 @@ use crate::matching::next_match;
 use crate::ready::{Ready, unknown_predicate};
 use crate::results::{Found, Results, next_result};
 use crate::search::{Branch, Choice, End, Frame, Goal, Item, Now, Place, Scope, Stack};
+use builtin_table::reaches_outside;
 use prims_tree::{Offers, Outcome};
 use program::{Clause, Program};
 use std::alloc::Global;
@@ -230,7 +231,18 @@ fn take_results(
     }
 }
 
-// A goal that no clause is for: a primitive, or an unknown predicate.
+// A predicate that has no clause and is no primitive: it reaches outside, or it is unknown.
+fn undefined(alloc: Global, pi: &Pi, items: &[Item]) -> Result<Now, Memory>
+    ensures { IfOk result (λ n. (w : World) (u : Used) → run_of w n u ≡ undefined_run pi.now (items_of items.now) u) }
+{
+    if reaches_outside(pi) {
+        return Ok(Now::Ends(End::Outside(pi.copied(alloc)?)));
+    }
+    let now = throw(alloc, &unknown_predicate(alloc, pi)?, items)?;
+    Ok(now)
+}
+
+// A goal that no clause is for: a primitive, or an undefined predicate.
 fn perform(
     alloc: Global,
     pi: &Pi,
@@ -255,7 +267,7 @@ fn perform(
             Ok(now)
         }
         Outcome::Unknown => {
-            let now = throw(alloc, &unknown_predicate(alloc, pi)?, &rest.items)?;
+            let now = undefined(alloc, pi, &rest.items)?;
             Ok(now)
         }
     }

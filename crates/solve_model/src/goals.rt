@@ -24,6 +24,8 @@ pub(crate) enum Row {
     Call(Term, Vec<Term>),
     Catch(Term, Term, Term),
     Throw(Term),
+    Output(Term),
+    Input(Term, Term),
     Predicate,
 }
 
@@ -104,6 +106,7 @@ fn row_of_one(alloc: Global, name: &str, goal: &Term) -> Result<Row, Memory>
             Ok(Row::Test(condition, succeeds(alloc)?, succeeds(alloc)?))
         }
         "throw" => Ok(Row::Throw(one_argument(alloc, goal)?)),
+        "pengine_output" => Ok(Row::Output(one_argument(alloc, goal)?)),
         _ => Ok(Row::Predicate),
     }
 }
@@ -134,6 +137,10 @@ fn row_of_two(alloc: Global, name: &str, goal: &Term) -> Result<Row, Memory>
             let (condition, action) = two_arguments(alloc, goal)?;
             let condition = counterexample(alloc, condition, action)?;
             Ok(Row::Test(condition, fails(alloc)?, succeeds(alloc)?))
+        }
+        "pengine_input" => {
+            let (prompt, term) = two_arguments(alloc, goal)?;
+            Ok(Row::Input(prompt, term))
         }
         _ => Ok(Row::Predicate),
     }

@@ -17,9 +17,13 @@ mod results;
 mod search;
 mod solver;
 mod steps;
+mod talk;
 mod work;
 
 pub use answers::{Trace, TraceEnd, TraceMark};
-pub use laws::{marks_stand, more_only_adds};
+pub use laws::{marks_stand, more_only_adds, prompts_take_replies};
 pub use solver::trace;
 pub use work::MAX_WORK;
+
+#[cfg(test)]
+mod tests;

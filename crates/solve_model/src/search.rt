@@ -2,6 +2,7 @@
 use crate::answers::TraceMark;
 use crate::bindings::Bindings;
 use crate::results::{Found, Results};
+use crate::talk::Question;
 use crate::work::Work;
 use term_core::{List, Pi, Term};
 
@@ -61,6 +62,8 @@ pub(crate) enum End {
     Cut(u64),
     Thrown(Term, u64),
     Spent,
+    Waits,
+    Outside(Pi),
 }
 
 // A goal's alternatives from a clause on: what is left to do after it, where it was called, and whether an alternative is left beside these.
@@ -108,6 +111,9 @@ pub(crate) enum Frame {
 pub(crate) enum Now {
     Runs(Branch, bool),
     Ends(End),
+    // puts the term out, and runs the branch
+    Tells(Term, Branch, bool),
+    Asks(Question),
 }
 
 // What is done at the ends of runs, the innermost run's last, and the work that may still be done.
@@ -122,5 +128,7 @@ pub(crate) struct Stack {
 pub(crate) struct Search {
     pub(crate) marks: List<(u64, TraceMark)>,
     pub(crate) steps: u64,
+    // how many replies were taken
+    pub(crate) replies: usize,
     pub(crate) stack: Stack,
 }

@@ -9,6 +9,7 @@ use crate::bindings::Bindings;
 use crate::ready::{Ready, make_ready};
 use crate::search::{Branch, End, Frame, Goal, Item, Now, Place, Scope, Search, Stack};
 use crate::steps::{frame_step, item_step};
+use crate::talk::{ask, tell};
 use crate::work::Work;
 use program::Program;
 use std::alloc::Global;
@@ -28,7 +29,6 @@ pub fn trace(
 ) -> Result<Trace, Memory>
     ensures { IfOk result (λ t. t ≡ traced template.now (query (world_of p.now replies.now n) goal.now template.now)) }
 {
-    let _ = replies;
     let mut stack = Stack {
         frames: Vec::new(alloc),
         work: Work::new(),
@@ -53,9 +53,10 @@ pub fn trace(
     let search = Search {
         marks: List::new(alloc),
         steps: 0,
+        replies: 0,
         stack,
     };
-    let trace = run(alloc, p, template, n, now, search)?;
+    let trace = run(alloc, p, template, replies, n, now, search)?;
     Ok(trace)
 }
 
@@ -74,11 +75,12 @@ fn run(
     alloc: Global,
     program: &Program,
     template: &Term,
+    replies: &[Term],
     limit: u64,
     now: Now,
     search: Search,
 ) -> Result<Trace, Memory>
-    ensures { IfOk result (λ t. (ts : list Tree) → t ≡ whole (world_of program.now ts limit) template.now now search) }
+    ensures { IfOk result (λ t. t ≡ whole (world_of program.now replies.now limit) template.now now search) }
 {
     let mut now = now;
     let mut search = search;
@@ -87,6 +89,8 @@ fn run(
             Now::Runs(branch, more) => {
                 take(alloc, program, template, limit, branch, more, &mut search)?
             }
+            Now::Tells(term, branch, more) => tell(term, branch, more, &mut search)?,
+            Now::Asks(question) => ask(alloc, replies, question, &mut search)?,
             Now::Ends(end) => match search.stack.frames.pop() {
                 None => return Ok(finished(search, end)),
                 Some(frame) => frame_step(alloc, program, frame, end, &mut search.stack)?,
@@ -135,22 +139,25 @@ fn take(
 
 // The trace of a search that is over.
 fn finished(search: Search, end: End) -> Trace
-    ensures { (template : Tree) → result ≡ traced_after template search.marks (ends (end_of end) (used_of search.steps)) }
+    ensures { (template : Tree) → result ≡ traced_after template search.marks (ends (end_of end) (used_of search.steps search.replies)) }
 {
     let Search {
         marks,
         steps,
+        replies,
         stack: _,
     } = search;
     let end = match end {
         End::Failed | End::Cut(_) => TraceEnd::Failed,
         End::Thrown(ball, _) => TraceEnd::Thrown(ball),
         End::Spent => TraceEnd::Spent,
+        End::Waits => TraceEnd::Waits,
+        End::Outside(pi) => TraceEnd::Outside(pi),
     };
     Trace {
         marks,
         steps,
-        replies_used: 0,
+        replies_used: replies as u64,
         end,
     }
 }

@@ -12,6 +12,7 @@ use crate::control::{branch_on, cut, differ, either, test};
 use crate::goals::{Row, row_of_goal};
 use crate::items::with_goal;
 use crate::search::{Branch, Catcher, Context, End, Frame, Goal, Item, Now, Stack};
+use crate::talk::{input, output};
 use program::Program;
 use std::alloc::Global;
 use term_core::Memory;
@@ -73,6 +74,14 @@ fn goal_step(
             let now = throw_term(alloc, &ball, &rest, stack)?;
             Ok(now)
         }
+        Row::Output(told) => {
+            let now = output(alloc, &told, rest, more, stack)?;
+            Ok(now)
+        }
+        Row::Input(prompt, term) => {
+            let now = input(alloc, &prompt, term, rest, more, stack)?;
+            Ok(now)
+        }
         Row::Predicate => {
             let now = call(alloc, program, term, rest, more, stack)?;
             Ok(now)
@@ -124,6 +133,8 @@ fn condition_step(branch: Branch, more: bool, end: End) -> Now
         }
         End::Thrown(ball, to) => Now::Ends(End::Thrown(ball, to)),
         End::Spent => Now::Ends(End::Spent),
+        End::Waits => Now::Ends(End::Waits),
+        End::Outside(pi) => Now::Ends(End::Outside(pi)),
     }
 }
 

@@ -22,7 +22,12 @@ unfolding row_of_one
 returns-in_ok-one_argument-in-throw c = λ a e.
     rw (c.in-throw.is, only_argument c.args.goal.now c.args.name.now a _ e c.in_ok-one_argument-in-throw.ensures)
 
+pub returns-in_ok-one_argument-in-pengine_output : goal.returns-in_ok-one_argument-in-pengine_output
+unfolding row_of_one
+returns-in_ok-one_argument-in-pengine_output c = λ a e.
+    rw (c.in-pengine_output.is, only_argument c.args.goal.now c.args.name.now a _ e c.in_ok-one_argument-in-pengine_output.ensures)
+
 pub returns-in_default : goal.returns-in_default
 unfolding row_of_one
 returns-in_default c = λ a e.
-    rw e (not_named c.args.name.now (one_rows a) _ (c.in_default.not-text, (c.in_default.not-once, (c.in_default.not-ignore, (c.in_default.not-throw, tt)))))
+    rw e (not_named c.args.name.now (one_rows a) _ (c.in_default.not-text, (c.in_default.not-once, (c.in_default.not-ignore, (c.in_default.not-throw, (c.in_default.not-pengine_output, tt))))))

@@ -32,7 +32,13 @@ returns-in_ok-succeeds-in-forall c = λ a b e.
     let same = both_arguments c.args.goal.now c.args.name.now a b c.in_ok-condition-in-forall.condition c.in_ok-condition-in-forall.action e c.in_ok-condition-in-forall.ensures in
     rw (c.in-forall.is, c.in_ok-condition-in-forall-2.ensures, c.in_ok-fails-in-forall.ensures, c.in_ok-succeeds-in-forall.ensures, same.0, same.1)
 
+pub returns-in_ok-prompt-in-pengine_input : goal.returns-in_ok-prompt-in-pengine_input
+unfolding row_of_two
+returns-in_ok-prompt-in-pengine_input c = λ a b e.
+    let same = both_arguments c.args.goal.now c.args.name.now a b c.in_ok-prompt-in-pengine_input.prompt c.in_ok-prompt-in-pengine_input.term e c.in_ok-prompt-in-pengine_input.ensures in
+    rw (c.in-pengine_input.is, same.0, same.1)
+
 pub returns-in_default : goal.returns-in_default
 unfolding row_of_two
 returns-in_default c = λ a b e.
-    rw e (not_named c.args.name.now (two_rows a b) _ (c.in_default.not-text, (c.in_default.not-text-2, (c.in_default.not-text-3, (c.in_default.not-text-4, (c.in_default.not-forall, tt))))))
+    rw e (not_named c.args.name.now (two_rows a b) _ (c.in_default.not-text, (c.in_default.not-text-2, (c.in_default.not-text-3, (c.in_default.not-text-4, (c.in_default.not-forall, (c.in_default.not-pengine_input, tt)))))))

@@ -76,3 +76,15 @@ unfolding goal_step
 returns-in_ok-now-in-Predicate c = λ ts limit u.
     rw (sym c.in_ok-row_of_goal.ensures ∙ ap (row_as c.args.goal.term) c.in-Predicate.is)
     (c.in_ok-now-in-Predicate.ensures ts limit u)
+
+pub returns-in_ok-now-in-Output : goal.returns-in_ok-now-in-Output
+unfolding goal_step
+returns-in_ok-now-in-Output c = λ ts limit u.
+    rw (sym c.in_ok-row_of_goal.ensures ∙ ap (row_as c.args.goal.term) c.in-Output.is)
+    (c.in_ok-now-in-Output.ensures (world_of c.args.program.now ts limit) u)
+
+pub returns-in_ok-now-in-Input : goal.returns-in_ok-now-in-Input
+unfolding goal_step
+returns-in_ok-now-in-Input c = λ ts limit u.
+    rw (sym c.in_ok-row_of_goal.ensures ∙ ap (row_as c.args.goal.term) c.in-Input.is)
+    (c.in_ok-now-in-Input.ensures (world_of c.args.program.now ts limit) u)
