@@ -1,6 +1,11 @@
 pub mod Collecting
+pub mod Guarded
+pub mod Instances
 pub mod Joining
+pub mod Linking
 pub mod Passing
 pub mod Reading
-pub mod Walking
 pub mod Rounds
+pub mod Solving
+pub mod Sound
+pub mod Walking

@@ -6,6 +6,7 @@ use Rattle.std.proofs.lemmas.Bool.{and_parts}
 use denote.Bor.{Bor}
 use Rattle.term_core.specs.declared.pi.Pi.{Pi}
 use Rattle.term_core.specs.Tree.{Tree}
+use Rattle.builtin_table.specs.Outside.{is_outside_in}
 use Rattle.builtin_table.specs.Table.{Rows}
 use Rattle.program.specs.Clauses.{Clause, is_for, same_indicator, clauses_of}
 use Rattle.program.proofs.SourceLemmas.{is_own}
@@ -14,7 +15,7 @@ use Rattle.sandbox_walk.specs.declared.found.Found.{Found}
 use Rattle.sandbox_walk.specs.declared.found.Found.TheVariants.{Literal, Place}
 use Rattle.sandbox_walk.specs.declared.unsafe_goal.Unsafe.{Unsafe}
 use Rattle.sandbox_walk.specs.declared.unsafe_goal.Unsafe.TheVariants.{Sandboxed, Uninstantiated, NotCallable}
-use Rattle.sandbox_walk.specs.Verdict.{Reach, by_goal, by_clause, TellsReach, is_outside, enters, in_goal, in_clause, is_literal, has_literal, reads, all_shown, least_outside, lesser, is_unbound, Closed, first_closed, refusal, Verdict}
+use Rattle.sandbox_walk.specs.Verdict.{Reach, by_goal, by_clause, TellsReach, enters, in_goal, in_clause, is_literal, has_literal, reads, all_shown, least_outside, lesser, is_unbound, Closed, first_closed, refusal, Verdict}
 use Rattle.sandbox_walk.specs.Passes.{opens, Passes}
 use Rattle.sandbox_walk.proofs.Walking.{same}
 use Rattle.sandbox_walk.proofs.Joining.{all_parts, any_left, any_right}
@@ -38,17 +39,17 @@ no_refusal rows fs h = by (least_outside rows fs) (list_any is_unbound fs) (firs
     by None false (Some d) e f g k = cc
     by None false None e f g k = record { outside = e; unbound = f; closed = g }
 
-none_outside : (rows : Rows) (fs : List Found) → least_outside rows fs ≡ None → (i : Pi) → IsTrue (has_literal i fs) → is_outside rows i ≡ false
+none_outside : (rows : Rows) (fs : List Found) → least_outside rows fs ≡ None → (i : Pi) → IsTrue (has_literal i fs) → is_outside_in rows i ≡ false
 none_outside rows [] e i h = absurd (differ (sym h))
 none_outside rows (Place p x ∷ fs) e i h = none_outside rows fs e i h
-none_outside rows (Literal j ∷ fs) e i h = by (is_outside rows j) refl e (λ k. none_outside rows fs k i)
+none_outside rows (Literal j ∷ fs) e i h = by (is_outside_in rows j) refl e (λ k. none_outside rows fs k i)
   where
-    by : (b : Bool) → is_outside rows j ≡ b → (if b then Some (lesser j (least_outside rows fs)) else least_outside rows fs) ≡ None → (least_outside rows fs ≡ None → IsTrue (has_literal i fs) → is_outside rows i ≡ false) → is_outside rows i ≡ false
+    by : (b : Bool) → is_outside_in rows j ≡ b → (if b then Some (lesser j (least_outside rows fs)) else least_outside rows fs) ≡ None → (least_outside rows fs ≡ None → IsTrue (has_literal i fs) → is_outside_in rows i ≡ false) → is_outside_in rows i ≡ false
     by true q k go = cc
     by false q k go = which (same_indicator i j) refl h
       where
-        which : (c : Bool) → same_indicator i j ≡ c → IsTrue (c || has_literal i fs) → is_outside rows i ≡ false
-        which true s l = ap (is_outside rows) (same i j s) ∙ q
+        which : (c : Bool) → same_indicator i j ≡ c → IsTrue (c || has_literal i fs) → is_outside_in rows i ≡ false
+        which true s l = ap (is_outside_in rows) (same i j s) ∙ q
         which false s l = go k l
 
 all_open : (fs : List Found) → list_any is_unbound fs ≡ false → first_closed fs ≡ None → list_all opens fs ≡ true

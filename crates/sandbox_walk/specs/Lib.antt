@@ -1,6 +1,7 @@
+pub mod Computed
 pub mod Passes
 pub mod Pending
 pub mod Seen
 pub mod Shown
+pub mod Sound
 pub mod Verdict
-pub mod Computed

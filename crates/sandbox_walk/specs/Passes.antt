@@ -3,12 +3,13 @@ use Rattle.std.specs.Prelude.{◌≡◌, Bool, true, false, List, IsTrue}
 use Rattle.std.specs.List.{list_all}
 use Rattle.term_core.specs.declared.pi.Pi.{Pi}
 use Rattle.term_core.specs.Tree.{Tree}
+use Rattle.builtin_table.specs.Outside.{is_outside_in}
 use Rattle.builtin_table.specs.Table.{Rows}
 use Rattle.program.specs.Clauses.{Clause}
 use Rattle.sandbox_walk.specs.declared.found.Stands.TheVariants.{Opens, Unbound, Shut}
 use Rattle.sandbox_walk.specs.declared.found.Found.{Found}
 use Rattle.sandbox_walk.specs.declared.found.Found.TheVariants.{Literal, Place}
-use Rattle.sandbox_walk.specs.Verdict.{Reach, is_outside, enters, in_goal, in_predicate}
+use Rattle.sandbox_walk.specs.Verdict.{Reach, enters, in_goal, in_predicate}
 
 abbrev pub opens : Found → Bool
 opens (Literal i) = true
@@ -17,6 +18,6 @@ opens (Place h Unbound) = false
 opens (Place h (Shut t)) = false
 
 pub record Passes (rows : Rows) (p : List Clause) (g : Tree) : Type 0 where
-  pub inside : (i : Pi) → Reach rows p g i → is_outside rows i ≡ false
+  pub inside : (i : Pi) → Reach rows p g i → is_outside_in rows i ≡ false
   pub goal : list_all opens (in_goal rows g) ≡ true
   pub clauses : (i : Pi) → Reach rows p g i → IsTrue (enters rows p i) → list_all opens (in_predicate rows p i) ≡ true

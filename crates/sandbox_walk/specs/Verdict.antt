@@ -6,8 +6,7 @@ use Rattle.std.specs.Ordering.{is_lt, nat_cmp, ordering_then}
 use Rattle.term_core.specs.declared.pi.Pi.{Pi}
 use Rattle.term_core.specs.Tree.{Tree}
 use Rattle.term_core.specs.Order.{name_cmp}
-use Rattle.builtin_table.specs.declared.row.Class.{Class}
-use Rattle.builtin_table.specs.declared.row.Class.TheVariants.{Control, Safe, Meta, Library, Outside}
+use Rattle.builtin_table.specs.Outside.{is_outside_in}
 use Rattle.builtin_table.specs.Table.{Rows, row_of}
 use Rattle.program.specs.Clauses.{Clause, indicator_of, same_indicator, clauses_of}
 use Rattle.sandbox_walk.specs.declared.found.Kind.TheVariants.{Part, Adds}
@@ -17,17 +16,6 @@ use Rattle.sandbox_walk.specs.declared.found.Found.TheVariants.{Literal, Place}
 use Rattle.sandbox_walk.specs.declared.unsafe_goal.Unsafe.{Unsafe}
 use Rattle.sandbox_walk.specs.declared.unsafe_goal.Unsafe.TheVariants.{Sandboxed, Uninstantiated, NotCallable, Memory}
 use Rattle.sandbox_walk.specs.Shown.{kinds_in, shown}
-
-abbrev pub is_outside_class : Class → Bool
-is_outside_class Outside = true
-is_outside_class Control = false
-is_outside_class Safe = false
-is_outside_class Meta = false
-is_outside_class Library = false
-
--- whether the predicate is outside
-abbrev pub is_outside : Rows → Pi → Bool
-is_outside rows i = elim (row_of i rows) [ None ↦ false | Some row ↦ is_outside_class row.class ]
 
 -- whether the client defines the predicate
 abbrev pub is_own : List Clause → Pi → Bool
@@ -91,7 +79,7 @@ lesser i (Some j) = if indicator_less j i then j else i
 
 -- the least predicate outside, of these literals
 abbrev pub least_with : Rows → Found → Option Pi → Option Pi
-least_with rows (Literal i) least = if is_outside rows i then Some (lesser i least) else least
+least_with rows (Literal i) least = if is_outside_in rows i then Some (lesser i least) else least
 least_with rows (Place h x) least = least
 
 abbrev pub least_outside : Rows → List Found → Option Pi

@@ -2,7 +2,8 @@
 ghost use Rattle.std.specs.Prelude.{◌≡◌};
 ghost use Rattle.std.specs.List.{list_any};
 ghost use Rattle.std.specs.Option.{option_map};
-ghost use Rattle.sandbox_walk.specs.Verdict.{holder_less as is_holder_less, indicator_less as is_less, is_outside as is_outside_predicate, is_unbound, least_outside as least_of, first_closed as first_of, lesser as lesser_of, earlier as earlier_of, least_with as least_with_of, closed_with as closed_with_of};
+ghost use Rattle.builtin_table.specs.Outside.{is_outside_in as is_outside_predicate};
+ghost use Rattle.sandbox_walk.specs.Verdict.{holder_less as is_holder_less, indicator_less as is_less, is_unbound, least_outside as least_of, first_closed as first_of, lesser as lesser_of, earlier as earlier_of, least_with as least_with_of, closed_with as closed_with_of};
 
 use crate::found::{Found, Stands};
 use builtin_table::{Class, Table};
