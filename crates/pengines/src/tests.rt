@@ -439,6 +439,28 @@ const LIBRARY: [Case; 6] = [
     },
 ];
 
+/// Lengths of lists, which need `'$skip_list'/3`, and the lengths of names that are found, which need `findall/3` and `atom_length/2`.
+const LENGTHS: [Case; 3] = [
+    Case {
+        name: "a list of a length",
+        input: b"---\nask(length(L,2))\n",
+        written: b"create\nsuccess([length([_0,_1],2)],false)\ndestroy\n",
+        ..DONE
+    },
+    Case {
+        name: "lengths",
+        input: b"---\ncreate([destroy(false)])\nask(length([a,b],N),[template(N)])\nask(length(L,N),[template(L-N),chunk(2)])\nstop\nask(length([a|T],3),[template(T)])\nask(length([a|b],N))\nask(length(L,-1))\nask(length(L,a))\n",
+        written: b"create\nsuccess([2],false)\nsuccess([[]-0,[_0]-1],true)\nstop\nsuccess([[_0,_1]],false)\nfailure\nfailure\nerror(error(type_error(integer,a),none))\n",
+        ..DONE
+    },
+    Case {
+        name: "a family",
+        input: b":- use_module(library(lists)). parent(tom, bob). parent(tom, liz). parent(bob, ann). parent(bob, pat). grandparent(X, Z) :- parent(X, Y), parent(Y, Z). name_len(N, L) :- atom_length(N, L).\n---\nask((findall(Z,grandparent(tom,Z),Zs),maplist(name_len,Zs,Ls)),[template(Zs-Ls)])\n",
+        written: b"create\nsuccess([[ann,pat]-[3,3]],false)\ndestroy\n",
+        ..DONE
+    },
+];
+
 fn run_case(rt: &impl Abort, alloc: Global, case: &Case) -> Result<(), Fail> {
     let words = vec![in alloc; String::from_str(alloc, case.word)?]?;
     let mut src = MemSource::new(alloc, case.input, 1, case.read_fails)?;
@@ -474,6 +496,11 @@ fn control_and_arithmetic(rt: HostRuntime) -> Result<(), Fail> {
 #[test]
 fn the_library(rt: HostRuntime) -> Result<(), Fail> {
     run_cases(&rt, rt.alloc(), &LIBRARY)
+}
+
+#[test]
+fn lengths(rt: HostRuntime) -> Result<(), Fail> {
+    run_cases(&rt, rt.alloc(), &LENGTHS)
 }
 
 #[test]
