@@ -9,6 +9,7 @@ ghost use Rattle.request_text.specs.declared.fault.ScriptFault.{ScriptFault as F
 use crate::input::{InputStop, read_input};
 use crate::output::{WriteFault, say, with_line_end, write_all};
 use crate::printing::Printing;
+use lib_text::Library;
 use outside::{Sink, Source};
 use request_text::{ScriptFault, read_script};
 use std::alloc::Global;
@@ -116,7 +117,8 @@ pub fn run_session<S: Source, K: Sink>(
         ⊎ DoneToMemory S.left K.taken K.faults src.old src.new out.old out.new }
 {
     let input = read_input(alloc, src)?;
-    let script = match read_script(alloc, &input) {
+    let library = Library::read(alloc)?;
+    let script = match read_script(alloc, &library, &input) {
         Ok(script) => script,
         Err(ScriptFault::Memory) => return Err(SessionStop::Memory),
         Err(fault) => return Err(SessionStop::Refused(fault)),

@@ -559,6 +559,76 @@ const FAULTS: [Case; 4] = [
     },
 ];
 
+/// The predicates of the library on lists.
+const LIST_ROWS: Case = Case {
+    name: "lists",
+    input: b"---\ncreate([destroy(false),chunk(9)])\nask(append(X,Y,[a,b]),[template(X-Y)])\nask(append([a],[b],L),[template(L)])\nask(member(X,[1,2]),[template(X)])\nask(memberchk(X,[1,2]),[template(X)])\nask(select(X,[a,b],L),[template(X-L)])\nask(reverse([a,b,c],L),[template(L)])\nask(nth0(1,[a,b],X),[template(X)])\nask(nth1(I,[a,b],X),[template(I-X)])\nask(nth1(0,[a],X))\nask(last([a,b],X),[template(X)])\n",
+    written: b"create\nsuccess([[]-[a,b],[a]-[b],[a,b]-[]],false)\nsuccess([[a,b]],false)\nsuccess([1,2],false)\nsuccess([1],false)\nsuccess([a-[b],b-[a]],false)\nsuccess([[c,b,a]],false)\nsuccess([b],false)\nsuccess([1-a,2-b],false)\nfailure\nsuccess([b],false)\n",
+    ..DONE
+};
+
+/// Those that run goals.
+const GOAL_ROWS: Case = Case {
+    name: "goals over lists",
+    input: b"d(X, Y) :- Y is X * 2. s(X, Y, Z) :- Z is X + Y. t(X, Y, Z, W) :- W is X + Y + Z. pos(X) :- X > 0.\n---\ncreate([destroy(false)])\nask(maplist(pos,[1,2]))\nask(maplist(d,[1,2],L),[template(L)])\nask(maplist(s,[1,2],[3,4],L),[template(L)])\nask(maplist(t,[1],[2],[3],L),[template(L)])\nask(maplist(d,[],L),[template(L)])\nask(foldl(s,[1,2,3],0,S),[template(S)])\nask(include(pos,[1,-1,2],L),[template(L)])\nask(exclude(pos,[1,-1,2],L),[template(L)])\n",
+    written: b"create\nsuccess([maplist(pos,[1,2])],false)\nsuccess([[2,4]],false)\nsuccess([[4,6]],false)\nsuccess([[6]],false)\nsuccess([[]],false)\nsuccess([6],false)\nsuccess([[1,2]],false)\nsuccess([[-1]],false)\n",
+    ..DONE
+};
+
+/// Those on integers.
+const INTEGER_ROWS: Case = Case {
+    name: "integers of the library",
+    input: b"---\ncreate([destroy(false),chunk(9)])\nask(sum_list([1,2,3],S),[template(S)])\nask(numlist(2,4,L),[template(L)])\nask(numlist(4,2,L))\nask(succ(X,4),[template(X)])\nask(succ(3,X),[template(X)])\nask(succ(X,0))\nask(succ(a,X))\nask(between(1,3,X),[template(X)])\nask(between(1,inf,2))\nask(between(1,3,5))\nask(between(1,a,X))\nask(between(1,inf,X),[template(X),chunk(2)])\nstop\n",
+    written: b"create\nsuccess([6],false)\nsuccess([[2,3,4]],false)\nfailure\nsuccess([3],false)\nsuccess([4],false)\nfailure\nerror(error(instantiation_error,none))\nsuccess([1,2,3],false)\nsuccess([between(1,inf,2)],false)\nfailure\nerror(error(type_error(integer,a),none))\nsuccess([1,2],true)\nstop\n",
+    ..DONE
+};
+
+const LIBRARY: [Case; 6] = [
+    LIST_ROWS,
+    GOAL_ROWS,
+    INTEGER_ROWS,
+    Case {
+        name: "a ball behind a catch that is left",
+        input: b"---\nask((catch(member(X,[1,2]),_,true),X>1,throw(t)))\n",
+        written: b"create\nerror(t)\ndestroy\n",
+        ..DONE
+    },
+    Case {
+        name: "the use of a library",
+        input: b":- use_module(library(lists)). p(X) :- member(X, [a]).\n---\nask(p(X))\n",
+        written: b"create\nsuccess([p(a)],false)\ndestroy\n",
+        ..DONE
+    },
+    Case {
+        name: "a predicate of the library that the client defines",
+        input: b"append(a, b, c).\n---\nask(append(X,Y,Z))\n",
+        written: b"create\nsuccess([append(a,b,c)],false)\ndestroy\n",
+        ..DONE
+    },
+];
+
+/// Lengths of lists, which need `'$skip_list'/3`, and the lengths of names that are found, which need `findall/3` and `atom_length/2`.
+const LENGTHS: [Case; 3] = [
+    Case {
+        name: "a list of a length",
+        input: b"---\nask(length(L,2))\n",
+        written: b"create\nsuccess([length([_0,_1],2)],false)\ndestroy\n",
+        ..DONE
+    },
+    Case {
+        name: "lengths",
+        input: b"---\ncreate([destroy(false)])\nask(length([a,b],N),[template(N)])\nask(length(L,N),[template(L-N),chunk(2)])\nstop\nask(length([a|T],3),[template(T)])\nask(length([a|b],N))\nask(length(L,-1))\nask(length(L,a))\n",
+        written: b"create\nsuccess([2],false)\nsuccess([[]-0,[_0]-1],true)\nstop\nsuccess([[_0,_1]],false)\nfailure\nfailure\nerror(error(type_error(integer,a),none))\n",
+        ..DONE
+    },
+    Case {
+        name: "a family",
+        input: b":- use_module(library(lists)). parent(tom, bob). parent(tom, liz). parent(bob, ann). parent(bob, pat). grandparent(X, Z) :- parent(X, Y), parent(Y, Z). name_len(N, L) :- atom_length(N, L).\n---\nask((findall(Z,grandparent(tom,Z),Zs),maplist(name_len,Zs,Ls)),[template(Zs-Ls)])\n",
+        written: b"create\nsuccess([[ann,pat]-[3,3]],false)\ndestroy\n",
+        ..DONE
+    },
+];
+
 fn run_case(rt: &impl Abort, alloc: Global, case: &Case) -> Result<(), Fail> {
     let words = vec![in alloc; String::from_str(alloc, case.word)?]?;
     let mut src = MemSource::new(alloc, case.input, 1, case.read_fails)?;
@@ -599,6 +669,16 @@ fn prompts_and_outputs(rt: HostRuntime) -> Result<(), Fail> {
 #[test]
 fn all_solutions_are_gathered(rt: HostRuntime) -> Result<(), Fail> {
     run_cases(&rt, rt.alloc(), &SOLUTIONS)
+}
+
+#[test]
+fn the_library(rt: HostRuntime) -> Result<(), Fail> {
+    run_cases(&rt, rt.alloc(), &LIBRARY)
+}
+
+#[test]
+fn lengths(rt: HostRuntime) -> Result<(), Fail> {
+    run_cases(&rt, rt.alloc(), &LENGTHS)
 }
 
 #[test]

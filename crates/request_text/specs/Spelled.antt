@@ -13,6 +13,7 @@ use Rattle.prolog_read.specs.Outcome.{ReadAs, term_read, clauses_read}
 use Rattle.program.specs.declared.fault.ProgFault.{ProgFault}
 use Rattle.program.specs.Clauses.{Clause}
 use Rattle.program.specs.Source.{first_fault, clauses_in, program_of}
+use Rattle.lib_text.specs.Clauses.{library_clauses}
 use Rattle.builtin_table.specs.Table.{standard, reserved_of}
 use Rattle.event_core.specs.declared.settings.Settings.{Settings}
 use Rattle.event_core.specs.declared.settings.TheConstants.Settings.{DEFAULT}
@@ -142,7 +143,7 @@ session_in n (l ∷ ls) = if is_passed l then session_in (n + 1) ls else session
 -- ---- the source text
 
 abbrev pub program_checked : Option ProgFault → List Tree → Result (List Clause) SpecFault
-program_checked None ts = Ok (program_of [] (clauses_in true ts))
+program_checked None ts = Ok (program_of library_clauses (clauses_in true ts))
 program_checked (Some f) ts = Err (ClauseFault f)
 
 abbrev pub program_from : Result (List ReadAs) ReadFault → Result (List Clause) SpecFault
@@ -151,7 +152,7 @@ program_from (Ok xs) =
     program_checked (first_fault (reserved_of standard) 1 ts) ts
 program_from (Err e) = Err (Source e)
 
--- the program that a source text spells; there is no library
+-- the program that a source text spells over the library
 abbrev pub program_in : List ℕ → Result (List Clause) SpecFault
 program_in text = program_from (clauses_read iso text)
 

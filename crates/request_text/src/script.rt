@@ -15,6 +15,7 @@ use crate::requests::request_of;
 use crate::sent::Sent;
 use builtin_table::Table;
 use event_core::Settings;
+use lib_text::Library;
 use op_table::Ops;
 use program::Program;
 use prolog_read::{ReadFault, read_clauses, read_term};
@@ -24,7 +25,7 @@ use term_core::{List, Memory, Term};
 /// A script (Lager and Wielemaker, TPLP 2014): one pengine, and what is sent to it.
 #[derive(Debug, Drop)]
 pub struct Script {
-    /// The program that the source text spells.
+    /// The program that the source text spells over the library.
     pub program: Program,
     /// The settings that the line `create(Options)` gives, or the default ones.
     pub settings: Settings,
@@ -149,8 +150,8 @@ fn session_in(alloc: Global, text: &str) -> Result<(Settings, List<Sent>), Scrip
     Ok((settings, requests))
 }
 
-/// The program that a source text spells.
-fn program_in(alloc: Global, text: &str) -> Result<Program, SpecFault>
+/// The program that a source text spells over the library.
+fn program_in(alloc: Global, library: &Library, text: &str) -> Result<Program, SpecFault>
     ensures program { IfOk result (λ p. program_in text.now ≡ Ok p) }
     ensures refused { IfErr result (λ e. e ≢ spec_fault.Memory → program_in text.now ≡ Err e) }
 {
@@ -160,7 +161,7 @@ fn program_in(alloc: Global, text: &str) -> Result<Program, SpecFault>
         Err(fault) => return Err(SpecFault::Source(fault)),
     };
     let table = Table::standard(alloc)?;
-    let program = Program::from_terms(alloc, clauses, &[], table.reserved())?;
+    let program = Program::from_terms(alloc, clauses, library.terms(), table.reserved())?;
     Ok(program)
 }
 
@@ -173,7 +174,7 @@ fn program_in(alloc: Global, text: &str) -> Result<Program, SpecFault>
 ///
 /// Bytes that aren't UTF-8 are refused first (`Utf8`), then a source text that can't be read or has a clause that is
 /// refused (`Spec`), with places and numbers from its start, then the first request line that is refused (`Line`).
-pub fn read_script(alloc: Global, bytes: &[u8]) -> Result<Script, ScriptFault>
+pub fn read_script(alloc: Global, library: &Library, bytes: &[u8]) -> Result<Script, ScriptFault>
     ensures script { IfOk result (λ s. script bytes.now ≡ Ok (script_read s)) }
     ensures refused { IfErr result (λ e. e ≢ script_fault.Memory → script bytes.now ≡ Err e) }
 {
@@ -186,7 +187,7 @@ pub fn read_script(alloc: Global, bytes: &[u8]) -> Result<Script, ScriptFault>
         }
     };
     let (source, requests) = parts(text);
-    let program = program_in(alloc, source)?;
+    let program = program_in(alloc, library, source)?;
     let (settings, lines) = session_in(alloc, requests)?;
     Ok(Script {
         program,

@@ -2,6 +2,7 @@ use crate::{
     RequestFault, ScriptFault, Sent, SpecFault, place_of, read_request, read_script, request_bytes,
 };
 use event_core::Request;
+use lib_text::Library;
 use program::ProgFault;
 use std::alloc::Global;
 use std::test::Fail;
@@ -31,8 +32,8 @@ fn request(alloc: Global, text: &str) -> (&'static str, u64) {
 }
 
 // What bytes are as a script, with the numbers of the fault.
-fn script(alloc: Global, bytes: &[u8]) -> (&'static str, u64, u64) {
-    match read_script(alloc, bytes) {
+fn script(alloc: Global, library: &Library, bytes: &[u8]) -> (&'static str, u64, u64) {
+    match read_script(alloc, library, bytes) {
         Ok(_) => ("script", 0, 0),
         Err(ScriptFault::Utf8 { at }) => ("bytes", at, 0),
         Err(ScriptFault::Spec(SpecFault::Source(fault))) => ("source", place_of(fault), 0),
@@ -121,12 +122,18 @@ fn scripts(rt: HostRuntime) -> Result<(), Fail> {
     let alloc = rt.alloc();
     let bytes =
         b":- op(700, xfx, likes).\nsam likes pie.\r\n---\r\n\n% one\ncreate([limit(9),destroy(false)])\nask(likes(sam,W))\nabort";
-    let read = read_script(alloc, bytes)?;
+    let library = Library::read(alloc)?;
+    let read = read_script(alloc, &library, bytes)?;
     let likes = Pi {
         name: Name::new(alloc, "likes")?,
         arity: 2,
     };
     assert_eq!(rt; read.program.clauses(&likes).len(), 1);
+    let append = Pi {
+        name: Name::new(alloc, "append")?,
+        arity: 3,
+    };
+    assert_eq!(rt; read.program.clauses(&append).len(), 2);
     assert_eq!(rt; read.settings.chunk, 1);
     assert_eq!(rt; read.settings.limit, 9);
     assert!(rt; !read.settings.destroys);
@@ -140,7 +147,7 @@ fn scripts(rt: HostRuntime) -> Result<(), Fail> {
         (b"---\nask(\n", ("line", 1, 4)),
     ];
     for (bytes, expected) in rows {
-        let found = script(alloc, bytes);
+        let found = script(alloc, &library, bytes);
         assert_eq!(rt; found.0, expected.0);
         assert_eq!(rt; found.1, expected.1);
         assert_eq!(rt; found.2, expected.2);

@@ -73,7 +73,7 @@ type Row = (
     &'static str,
 );
 
-const ROWS: [Row; 8] = [
+static ROWS: [Row; 8] = [
     // pengine_input(name, X)
     (
         &[A("name"), V(0), C("pengine_input")],
@@ -149,23 +149,42 @@ const ROWS: [Row; 8] = [
     (&[A("nosuch")], &[], &[], 0, "thrown"),
 ];
 
+// Whether the marks show these kinds and names.
+fn are_shown(marks: &[(u64, TraceMark)], shown: &[(&str, &str)]) -> bool {
+    marks.len() == shown.len()
+        && marks
+            .iter()
+            .zip(shown)
+            .all(|(mark, expected)| kind_and_name(&mark.1) == *expected)
+}
+
+fn atoms(alloc: Global, names: &[&str]) -> Result<Vec<Term>, Memory> {
+    let mut atoms = Vec::new(alloc);
+    for name in names {
+        atoms.push(Term::atom(alloc, name)?)?;
+    }
+    Ok(atoms)
+}
+
+fn holds(alloc: Global, program: &Program, row: &Row) -> Result<bool, Memory> {
+    let (postfix, names, shown, taken, end) = row;
+    let goal = goal(alloc, postfix)?;
+    let template = Term::var(alloc, 0)?;
+    let replies = atoms(alloc, names)?;
+    let found = trace(alloc, program, &goal, &template, &replies, 100)?;
+    Ok(
+        are_shown(found.marks.as_slice(), shown)
+            && found.replies_used == *taken
+            && end_name(&found.end) == *end,
+    )
+}
+
 #[test]
 fn what_a_query_tells_and_asks(rt: HostRuntime) -> Result<(), Fail> {
     let alloc = rt.alloc();
     let program = Program::from_terms(alloc, Vec::new(alloc), &[], &[])?;
-    for (postfix, names, shown, taken, end) in ROWS {
-        let goal = goal(alloc, postfix)?;
-        let mut replies = Vec::new(alloc);
-        for name in names {
-            replies.push(Term::atom(alloc, name)?)?;
-        }
-        let found = trace(alloc, &program, &goal, &Term::var(alloc, 0)?, &replies, 100)?;
-        assert_eq!(rt; found.marks.len(), shown.len());
-        for ((_, mark), expected) in found.marks.as_slice().iter().zip(shown) {
-            assert_eq!(rt; kind_and_name(mark), *expected);
-        }
-        assert_eq!(rt; found.replies_used, taken);
-        assert_eq!(rt; end_name(&found.end), end);
+    for row in &ROWS {
+        assert!(rt; holds(alloc, &program, row)?);
     }
     Ok(())
 }

@@ -1,7 +1,10 @@
-use Rattle.std.proofs.Common.{◌∙◌, ap}
+use Rattle.std.proofs.Common.{List, ◌∙◌, ap}
 use Rattle.std.proofs.lemmas.Result.{err_from_is_err_and}
 use Rattle.builtin_table.specs.Table.{reserved_of}
-use Rattle.request_text.proofs.Programs.{all_numbered, program_made, program_refused}
+use Rattle.program.specs.Clauses.{Clause}
+use Rattle.program.specs.Source.{clauses_in, program_of, trees_read}
+use Rattle.lib_text.proofs.Reading.{all_numbered}
+use Rattle.request_text.proofs.Programs.{program_made, program_refused}
 use Rattle.request_text.proofs.script.program_in.Goals as goal
 
 pub from_terms-requires-clause-own_numbered : goal.from_terms-requires-clause-own_numbered
@@ -14,4 +17,4 @@ returns-in_err-program-clause-refused c =
 
 pub returns-clause-program : goal.returns-clause-program
 returns-clause-program c =
-    program_made c.args.text.now c.in-Ok.clauses.items c.in-Ok.ensures.exact c.reserved.result.now (c.reserved.ensures ∙ ap reserved_of c.in_ok-table.ensures) c.in_ok-program.program c.in_ok-program.ensures.program c.in_ok-program.ensures.accepted
+    program_made c.args.text.now c.in-Ok.clauses.items c.in-Ok.ensures.exact c.reserved.result.now (c.reserved.ensures ∙ ap reserved_of c.in_ok-table.ensures) c.in_ok-program.program (c.in_ok-program.ensures.program ∙ ap (λ (cs : List Clause). program_of cs (clauses_in true (trees_read c.in-Ok.clauses.items))) c.terms.ensures.clauses) c.in_ok-program.ensures.accepted
