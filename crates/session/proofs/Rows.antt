@@ -1,9 +1,9 @@
 -- Worked rows of one pengine by its entries, computed.
-use Rattle.std.proofs.Common.{◌≡◌, ℕ, zero, suc, ◌≤◌, ◌<◌, refl, Bool, true, false, List, [], ◌∷◌, None, codes, get_or, inl, inr, arith}
+use Rattle.std.proofs.Common.{◌≡◌, ℕ, zero, suc, ◌≤◌, ◌<◌, refl, Bool, true, false, List, [], ◌∷◌, None, codes, length, get_or, inl, inr, arith}
 use Rattle.term_core.specs.Tree.{Tree, atom}
 use Rattle.builtin_table.specs.Errors.{one_argument}
 use Rattle.event_core.specs.declared.stop.Stop.{Stop}
-use Rattle.event_core.specs.declared.stop.Stop.TheVariants.{Found}
+use Rattle.event_core.specs.declared.stop.Stop.TheVariants.{Found, Limit as Spent}
 use Rattle.event_core.specs.declared.event.Event.{Event}
 use Rattle.event_core.specs.declared.event.Event.TheVariants as event
 use Rattle.event_core.specs.declared.event.Event.TheVariants.{Create, Success}
@@ -13,7 +13,7 @@ use Rattle.event_core.specs.declared.request.Request.TheVariants.{Ask, Next, Sto
 use Rattle.event_core.specs.Parts.{part_of, part_step}
 use Rattle.event_core.specs.Full.{Spec, Sends, Struck, ByAbort, ByDestroy, ByWant, full, full_from, reads}
 use Rattle.session.specs.After.{Entry, Sent, Pulled, Abort, Destroy, Taken, Given, settled, after, made}
-use Rattle.session.specs.Legal.{Holds, IsLegal, acts}
+use Rattle.session.specs.Legal.{Holds, IsAllowed, IsLegal, acts}
 
 abbrev of_p : List ℕ → Tree
 of_p f = one_argument (codes "p") (atom f)
@@ -111,3 +111,26 @@ stopped = Sent ask ∷ Sent ask ∷ Taken ∷ Given 1 2 1 false true ∷ Sent St
 stopped_emits : (after (over_stops true three) stopped made).emitted ≡ Create ∷ Success (of_p (codes "a") ∷ []) true ∷ event.Protocol kind.Ask ∷ event.Stop ∷ event.Destroy ∷ []
 unfolding opened
 stopped_emits = refl
+
+-- while a query runs, 64 requests wait and no further one is taken; an abort drops them
+abbrev nexts : ℕ → List Entry → List Entry
+nexts zero es = es
+nexts (suc n) es = Sent (Next None) ∷ nexts n es
+
+abbrev loops : Spec
+loops = over_stops false ((1000, Spent) ∷ [])
+
+crowded : length (after loops (Sent ask ∷ nexts 64 []) made).mailbox ≡ 64
+unfolding opened
+crowded = refl
+
+no_further : IsAllowed loops 10000 (Sent (Next None)) (after loops (Sent ask ∷ nexts 64 []) made) → ⊥
+no_further h = omega (arith, h.1, crowded)
+
+crowd_dropped : (after loops (Sent ask ∷ nexts 64 (Abort ∷ [])) made).emitted ≡ Create ∷ event.Abort ∷ []
+unfolding opened
+crowd_dropped = refl
+
+crowd_gone : (after loops (Sent ask ∷ nexts 64 (Abort ∷ [])) made).mailbox ≡ []
+unfolding opened
+crowd_gone = refl
