@@ -193,6 +193,7 @@ module _ (m : May) (ks : Kinds) where
 
   mutual
     unfolding behind_carets Safe SafeFresh
+
     carets_safe : (t : Tree) → Safe m ks t Behind → Safe m ks (behind_carets t) (Adds 0)
     carets_safe (variable n) h = h
     carets_safe (integer z) h = tt
@@ -267,9 +268,9 @@ module _ (m : May) (ks : Kinds) where
   with_safe (compound f ts) (u ∷ us) h =
       compound_ready f (tree_list ts ++ u ∷ us)
       (λ e. subst (λ (n : ℕ). m (indicator f n) × SafeIn m ks (trees_of (tree_list ts ++ u ∷ us)) (ks (indicator f n)) 0) (length_added ts (u ∷ us))
-        (let g : m (indicator f (arity ts + length (u ∷ us))) × SafeIn m ks ts (ks (indicator f (arity ts + length (u ∷ us)))) (length (u ∷ us)) =
-          not_many (too_many (length (u ∷ us)) (arity ts + length (u ∷ us))) (and_no (nat_lt 0 (length (u ∷ us))) (nat_lt 1024 (arity ts + length (u ∷ us))) (ap (nat_lt 1024) (length_added ts (u ∷ us)) ∙ e)) h in
-        (g.0, added_in ts (u ∷ us) (ks (indicator f (arity ts + length (u ∷ us)))) g.1)))
+      (let g : m (indicator f (arity ts + length (u ∷ us))) × SafeIn m ks ts (ks (indicator f (arity ts + length (u ∷ us)))) (length (u ∷ us)) =
+      not_many (too_many (length (u ∷ us)) (arity ts + length (u ∷ us))) (and_no (nat_lt 0 (length (u ∷ us))) (nat_lt 1024 (arity ts + length (u ∷ us))) (ap (nat_lt 1024) (length_added ts (u ∷ us)) ∙ e)) h in
+      (g.0, added_in ts (u ∷ us) (ks (indicator f (arity ts + length (u ∷ us)))) g.1)))
     where
       not_many : (b : Bool) → b ≡ false → when b (Unit {0}) (m (indicator f (arity ts + length (u ∷ us))) × SafeIn m ks ts (ks (indicator f (arity ts + length (u ∷ us)))) (length (u ∷ us))) →
           m (indicator f (arity ts + length (u ∷ us))) × SafeIn m ks ts (ks (indicator f (arity ts + length (u ∷ us)))) (length (u ∷ us))
@@ -331,10 +332,11 @@ module _ (m : May) (ks : Kinds) (rows : KnowsRows m ks) where
 
   may_call : (s : Bindings) (f : List ℕ) (ts : Trees) → At s (compound f ts) Part → MayCall s (indicator f (arity ts)) (compound f ts)
   unfolding Safe
-  may_call s f ts h =
-      ( subst (λ (n : ℕ). m (indicator f n)) (arity_instance (value_of s) ts) h.0
-      , h
-      , length_list (all_substituted (value_of s) ts) ∙ arity_instance (value_of s) ts )
+  may_call s f ts h = (
+    subst (λ (n : ℕ). m (indicator f n)) (arity_instance (value_of s) ts) h.0,
+    h,
+    length_list (all_substituted (value_of s) ts) ∙ arity_instance (value_of s) ts,
+  )
 
   atom_safe : (s : Bindings) (f : List ℕ) → At s (atom f) Part → RowSafe s (row_of_atom f)
   unfolding row_of_atom Safe
@@ -349,12 +351,17 @@ module _ (m : May) (ks : Kinds) (rows : KnowsRows m ks) where
   one_safe : (s : Bindings) (f : List ℕ) (a : Tree) → At s (compound f (tree a no_trees)) Part → RowSafe s (row_of_one f a)
   unfolding row_of_one
   one_safe s f a h =
-      named (RowSafe s) f (one_rows a) (Predicate (pi_of f 1) (one_argument f a))
-        ( (λ e. (first_goal s f (codes "\\+") a e rows.neg h, safe_fail s, safe_true s))
-        , ( (λ e. (first_goal s f (codes "once") a e rows.once h, safe_true s, safe_fail s))
-        , ( (λ e. (first_goal s f (codes "ignore") a e rows.ignore h, safe_true s, safe_true s))
-        , ( (λ e. tt), ( (λ e. tt), tt ) ) ) ) )
-        (may_call s f (tree a no_trees) h)
+      named (RowSafe s) f (one_rows a) (Predicate (pi_of f 1) (one_argument f a)) (
+        (λ e. (first_goal s f (codes "\\+") a e rows.neg h, safe_fail s, safe_true s)),
+        (
+          (λ e. (first_goal s f (codes "once") a e rows.once h, safe_true s, safe_fail s)),
+          (
+            (λ e. (first_goal s f (codes "ignore") a e rows.ignore h, safe_true s, safe_true s)),
+            ((λ e. tt), ((λ e. tt), tt)),
+          ),
+        ),
+      )
+      (may_call s f (tree a no_trees) h)
 
   abbrev Two : Bindings → Tree → Tree → List Kind → Type 0
   Two s a b xs = SafeIn m ks (tree (apply s a) (tree (apply s b) no_trees)) xs 0
@@ -386,23 +393,34 @@ module _ (m : May) (ks : Kinds) (rows : KnowsRows m ks) where
   -- forall(C, A) as a condition
   counterexample_safe : (s : Bindings) (c a : Tree) → At s c (Adds 0) → At s a (Adds 0) → At s (counterexample c a) (Adds 0)
   unfolding Safe SafeFresh
-  counterexample_safe s c a hc ha =
-      ( rows.may_both
-      , subst (λ (xs : List Kind). SafeIn m ks (tree (apply s c) (tree (apply s (one_argument (codes "\\+") a)) no_trees)) xs 0) (sym rows.both)
-        ( adds_part m ks (apply s c) hc
-        , ( (rows.may_neg, subst (λ (xs : List Kind). SafeIn m ks (tree (apply s a) no_trees) xs 0) (sym rows.neg.1) (ha, tt)), tt ) ) )
+  counterexample_safe s c a hc ha = (
+    rows.may_both,
+    subst (λ (xs : List Kind). SafeIn m ks (tree (apply s c) (tree (apply s (one_argument (codes "\\+") a)) no_trees)) xs 0) (sym rows.both) (
+      adds_part m ks (apply s c) hc,
+      ((rows.may_neg, subst (λ (xs : List Kind). SafeIn m ks (tree (apply s a) no_trees) xs 0) (sym rows.neg.1) (ha, tt)), tt),
+    ),
+  )
 
   two_safe : (s : Bindings) (f : List ℕ) (a b : Tree) → At s (compound f (tree a (tree b no_trees))) Part → RowSafe s (row_of_two f a b)
   unfolding row_of_two Safe
   two_safe s f a b h =
-      named (RowSafe s) f (two_rows a b) (Predicate (pi_of f 2) (two_arguments f a b))
-        ( (λ e. parts_of s a b (two_in s f (codes ",") a b (Part ∷ Part ∷ []) e rows.both h))
-        , ( (λ e. let p = parts_of s a b (two_in s f (codes ";") a b (Part ∷ Part ∷ []) e rows.either h) in disjunction_safe s a b p.0 p.1)
-        , ( (λ e. let p = parts_of s a b (two_in s f (codes "->") a b (Part ∷ Part ∷ []) e rows.branch h) in (p.0, p.1, safe_fail s))
-        , ( (λ e. tt)
-        , ( (λ e. let p = two_in s f (codes "forall") a b (Adds 0 ∷ Adds 0 ∷ rows.forall_of.0) e rows.forall_of.1 h in (counterexample_safe s a b p.0 p.1.0, safe_fail s, safe_true s))
-        , ( (λ e. tt), tt ) ) ) ) ) )
-        (may_call s f (tree a (tree b no_trees)) h)
+      named (RowSafe s) f (two_rows a b) (Predicate (pi_of f 2) (two_arguments f a b)) (
+        (λ e. parts_of s a b (two_in s f (codes ",") a b (Part ∷ Part ∷ []) e rows.both h)),
+        (
+          (λ e. let p = parts_of s a b (two_in s f (codes ";") a b (Part ∷ Part ∷ []) e rows.either h) in disjunction_safe s a b p.0 p.1),
+          (
+            (λ e. let p = parts_of s a b (two_in s f (codes "->") a b (Part ∷ Part ∷ []) e rows.branch h) in (p.0, p.1, safe_fail s)),
+            (
+              (λ e. tt),
+              (
+                (λ e. let p = two_in s f (codes "forall") a b (Adds 0 ∷ Adds 0 ∷ rows.forall_of.0) e rows.forall_of.1 h in (counterexample_safe s a b p.0 p.1.0, safe_fail s, safe_true s)),
+                ((λ e. tt), tt),
+              ),
+            ),
+          ),
+        ),
+      )
+      (may_call s f (tree a (tree b no_trees)) h)
 
   -- the second argument of a row whose second is a goal
   second_goal : (s : Bindings) (f g : List ℕ) (a b c : Tree) (k : Kind) → ((ts : Trees) (xs : List Kind) → SafeIn m ks (tree (apply s b) ts) (k ∷ xs) 0 → At s b k) → f ≡ g →
@@ -414,15 +432,22 @@ module _ (m : May) (ks : Kinds) (rows : KnowsRows m ks) where
   three_safe : (s : Bindings) (f : List ℕ) (a b c : Tree) → At s (compound f (tree a (tree b (tree c no_trees)))) Part → RowSafe s (row_of_three f a b c)
   unfolding row_of_three Safe
   three_safe s f a b c h =
-      named (RowSafe s) f (three_rows a b c) (Predicate (pi_of f 3) (compound f (trees_of (a ∷ b ∷ c ∷ []))))
-        ( (λ e.
+      named (RowSafe s) f (three_rows a b c) (Predicate (pi_of f 3) (compound f (trees_of (a ∷ b ∷ c ∷ [])))) (
+        (λ e.
             let p = in_row f (codes "catch") 3 (tree (apply s a) (tree (apply s b) (tree (apply s c) no_trees))) (Adds 0 ∷ Plain ∷ Adds 0 ∷ rows.catch_of.0) e rows.catch_of.1 h.1 in
-            (p.0, p.1.0))
-        , ( (λ e. second_goal s f (codes "findall") a b c (Adds 0) (λ ts xs h. h.0) e rows.findall_of h)
-        , ( (λ e. second_goal s f (codes "bagof") a b c Behind (λ ts xs h. h.0) e rows.bagof_of h)
-        , ( (λ e. second_goal s f (codes "setof") a b c Behind (λ ts xs h. h.0) e rows.setof_of h)
-        , tt ) ) ) )
-        (may_call s f (tree a (tree b (tree c no_trees))) h)
+            (p.0, p.1.0)),
+        (
+          (λ e. second_goal s f (codes "findall") a b c (Adds 0) (λ ts xs h. h.0) e rows.findall_of h),
+          (
+            (λ e. second_goal s f (codes "bagof") a b c Behind (λ ts xs h. h.0) e rows.bagof_of h),
+            (
+              (λ e. second_goal s f (codes "setof") a b c Behind (λ ts xs h. h.0) e rows.setof_of h),
+              tt,
+            ),
+          ),
+        ),
+      )
+      (may_call s f (tree a (tree b (tree c no_trees))) h)
 
   arguments_safe : (s : Bindings) (f : List ℕ) (a : Tree) (ts : Trees) → At s (compound f (tree a ts)) Part → RowSafe s (row_of_arguments f a ts)
   unfolding row_of_arguments
@@ -438,7 +463,7 @@ module _ (m : May) (ks : Kinds) (rows : KnowsRows m ks) where
       let x = rows.call_of (arity ts) parts.1 in
       let here : SafeIn m ks (tree (apply s a) (all_substituted (value_of s) ts)) (Adds (arity ts) ∷ x.0) 0 =
       in_row f (codes "call") (suc (arity ts)) (tree (apply s a) (all_substituted (value_of s) ts)) (Adds (arity ts) ∷ x.0) ((bytes_decides f (codes "call")).0 parts.0) x.1
-        (subst (λ (n : ℕ). SafeIn m ks (tree (apply s a) (all_substituted (value_of s) ts)) (ks (indicator f (suc n))) 0) (arity_instance (value_of s) ts) h.1) in
+      (subst (λ (n : ℕ). SafeIn m ks (tree (apply s a) (all_substituted (value_of s) ts)) (ks (indicator f (suc n))) 0) (arity_instance (value_of s) ts) h.1) in
       subst (λ (n : ℕ). At s a (Adds n)) (sym (length_list ts)) here.0
 
   compound_safe : (s : Bindings) (f : List ℕ) (ts : Trees) → At s (compound f ts) Part → RowSafe s (row_of_compound f ts)
@@ -550,14 +575,14 @@ module _ (m : May) (ks : Kinds) (rows : KnowsRows m ks) where
         Same (called w r cs i t is p o u) (called w' r' cs i t is p o u)
     called_same [] i t is p o u inside pass prim h g =
         subst (λ (q : Outcome). Same (performed r (w.primitive i.name (arguments_of (apply p.subst t)) p.next) i is p o u) (performed r' q i is p o u)) (sym (prim refl))
-          (performed_same (w.primitive i.name (arguments_of (apply p.subst t)) p.next) i is p o u inside g)
+        (performed_same (w.primitive i.name (arguments_of (apply p.subst t)) p.next) i is p o u inside g)
     called_same (c ∷ cs) i t is p o u inside pass prim h g =
         same_after _ _ _ _ (in_order_same (entered (c ∷ cs) t is p o) o u (entered_safe (c ∷ cs) pass t is p o h g)) (same_cut p.level)
 
     predicate_same : (i : Pi) (t : Tree) (is : List Item) (p : Place) (o : Bool) (u : Used) → MayCall p.subst i t → ItemsSafe p.subst is → Same (called w r (clauses_of i w.clauses) i t is p o u) (called w' r' (clauses_of i w'.clauses) i t is p o u)
     predicate_same i t is p o u h g =
         subst (λ (cs : List Clause). Same (called w r (clauses_of i w.clauses) i t is p o u) (called w' r' (clauses_of i cs) i t is p o u)) (sym alike.same_clauses)
-          (called_same (clauses_of i w.clauses) i t is p o u (alike.inside i h.0) (alike.pass_on i h.0) (λ e. alike.same_primitives i (arguments_of (apply p.subst t)) p.next h.0 e h.2) h.1 g)
+        (called_same (clauses_of i w.clauses) i t is p o u (alike.inside i h.0) (alike.pass_on i h.0) (λ e. alike.same_primitives i (arguments_of (apply p.subst t)) p.next h.0 e h.2) h.1 g)
 
     branched_same : (c t e : Tree) (l : ℕ) (cut : Bool) (is : List Item) (p : Place) (o : Bool) (u : Used) → At p.subst c Part → At p.subst t Part → At p.subst e Part → ItemsSafe p.subst is → Same (branched r c t e l cut is p o u) (branched r' c t e l cut is p o u)
     branched_same c t e l cut is p o u hc ht he g =
@@ -567,19 +592,19 @@ module _ (m : May) (ks : Kinds) (rows : KnowsRows m ks) where
     differs_same a b None l cut is p o u e g = rr _ p o u (safe_true p.subst, g)
     differs_same a b (Some s) l cut is p o u e g =
         same_after _ _ _ _ (rr _ _ true u (safe_fail s, items_refined p.subst s _ (mgu_refines ((a, b) ∷ []) p.subst s e) is g))
-          (same_condition p.level _ _ (λ v. rr _ p o v (safe_true p.subst, g)))
+        (same_condition p.level _ _ (λ v. rr _ p o v (safe_true p.subst, g)))
 
     recovered_same : (catching t ball : Tree) (x : Option Bindings) (is : List Item) (p : Place) (o : Bool) (u : Used) → mgu ((renamed p.next ball, catching) ∷ []) p.subst ≡ x → At p.subst t (Adds 0) → ItemsSafe p.subst is → Same (recovered_by r x ball t is p o u) (recovered_by r' x ball t is p o u)
     recovered_same catching t ball None is p o u e h g = same_ends _ u tt
     recovered_same catching t ball (Some s) is p o u e h g =
         let q = mgu_refines ((renamed p.next ball, catching) ∷ []) p.subst s e in
         if_ready_same (ready (apply s t)) is u _ _ (ready_safe m ks (apply s t) (at_refined p.subst s _ q t (Adds 0) h))
-          (λ y k. locally_same y is _ o u k (items_refined p.subst s _ q is g))
+        (λ y k. locally_same y is _ o u k (items_refined p.subst s _ q is g))
 
     caught_same : (a c t : Tree) (is : List Item) (p : Place) (o : Bool) (u : Used) → Safe m ks a Part → At p.subst t (Adds 0) → ItemsSafe p.subst is → Same (caught r a c t is p o u) (caught r' a c t is p o u)
     caught_same a c t is p o u ha h g =
         same_after _ _ _ _ (rr _ _ o u (at_any p.subst a ha, g))
-          (same_catch p.level _ _ (λ b v. recovered_same c t b (mgu ((renamed p.next b, c) ∷ []) p.subst) is p o v refl h g))
+        (same_catch p.level _ _ (λ b v. recovered_same c t b (mgu ((renamed p.next b, c) ∷ []) p.subst) is p o v refl h g))
 
     replied_same : (x : Option Tree) (t : Tree) (is : List Item) (p : Place) (o : Bool) (u : Used) → ItemsSafe p.subst is →
         Same (if_replied x u (λ y. in_order r (offered (reply_offer y t p.next ∷ []) is p) o (one_reply u))) (if_replied x u (λ y. in_order r' (offered (reply_offer y t p.next ∷ []) is p) o (one_reply u)))
@@ -589,7 +614,7 @@ module _ (m : May) (ks : Kinds) (rows : KnowsRows m ks) where
     prompted_same : (q t : Tree) (is : List Item) (p : Place) (o : Bool) (u : Used) → ItemsSafe p.subst is → Same (prompted w.replies r q t is p o u) (prompted w'.replies r' q t is p o u)
     prompted_same q t is p o u g =
         subst (λ (rs : List Tree). Same (prompted w.replies r q t is p o u) (prompted rs r' q t is p o u)) (sym alike.same_replies)
-          (same_marked (Asked q) u _ _ (replied_same (slice_get w.replies u.replies) t is p o u g))
+        (same_marked (Asked q) u _ _ (replied_same (slice_get w.replies u.replies) t is p o u g))
 
     alone_same : (t : Tree) (p : Place) (u : Used) → Safe m ks t Part → Same (alone r t p u) (alone r' t p u)
     alone_same t p u h = same_after _ _ _ _ (rr _ _ false u (at_any p.subst t h, tt)) (same_cut 1)
@@ -605,8 +630,8 @@ module _ (m : May) (ks : Kinds) (rows : KnowsRows m ks) where
     gathered_same : (t : Tree) (f : List Tree → List Offer) (cs : List Tree) (n : ℕ) (is : List Item) (p : Place) (o : Bool) (a a' : Ran) → ItemsSafe p.subst is → Same a a' → Same (gathered r t f cs n is p o a) (gathered r' t f cs n is p o a')
     gathered_same t f cs n is p o a a' g h =
         subst (λ (b : Ran). Same (gathered r t f cs n is p o a) (gathered r' t f cs n is p o b)) h.0
-          (same_after (without_answers a) (without_answers a) _ _ (refl, h.1)
-            (tried_same (f (cs ++ copies n (solutions t a.marks))) is (record p { next = after_copies n (solutions t a.marks) }) o g))
+        (same_after (without_answers a) (without_answers a) _ _ (refl, h.1)
+        (tried_same (f (cs ++ copies n (solutions t a.marks))) is (record p { next = after_copies n (solutions t a.marks) }) o g))
 
     collected_same : (a t : Tree) (f : List Tree → List Offer) (is : List Item) (p : Place) (o : Bool) (u : Used) → Safe m ks a (Adds 0) → ItemsSafe p.subst is → Same (collected r a t f is p o u) (collected r' a t f is p o u)
     collected_same a t f is p o u h g =
@@ -632,8 +657,8 @@ module _ (m : May) (ks : Kinds) (rows : KnowsRows m ks) where
     goal_same (Differ a b) l cut is p o u h g = differs_same a b (mgu ((a, b) ∷ []) p.subst) l cut is p o u refl g
     goal_same (Call a ts) l cut is p o u h g =
         if_ready_same (with_arguments (apply p.subst a) (map (apply p.subst) ts)) is u _ _
-          (with_safe m ks (apply p.subst a) (map (apply p.subst) ts) (subst (λ (n : ℕ). At p.subst a (Adds n)) (sym (length_map (apply p.subst) ts)) h))
-          (λ y k. locally_same y is p o u k g)
+        (with_safe m ks (apply p.subst a) (map (apply p.subst) ts) (subst (λ (n : ℕ). At p.subst a (Adds n)) (sym (length_map (apply p.subst) ts)) h))
+        (λ y k. locally_same y is p o u k g)
     goal_same (Catch a c t) l cut is p o u h g =
         if_ready_same (ready (apply p.subst a)) is u _ _ (ready_safe m ks (apply p.subst a) h.0) (λ y k. caught_same y c t is p o u k h.1 g)
     goal_same (Throw b) l cut is p o u h g = same_ends _ u tt
@@ -654,7 +679,7 @@ module _ (m : May) (ks : Kinds) (rows : KnowsRows m ks) where
     unfolding taken
     taken_same i is p o u h =
         subst (λ (n : ℕ). Same (elim (nat_lt u.steps w.limit) as (λ x. Ran) [ false ↦ ends Spent u | true ↦ item_step w r i is p o (one_more u) ]) (elim (nat_lt u.steps n) as (λ x. Ran) [ false ↦ ends Spent u | true ↦ item_step w' r' i is p o (one_more u) ])) (sym alike.same_limit)
-          (by (nat_lt u.steps w.limit))
+        (by (nat_lt u.steps w.limit))
       where
         by : (b : Bool) → Same (elim b as (λ x. Ran) [ false ↦ ends Spent u | true ↦ item_step w r i is p o (one_more u) ]) (elim b as (λ x. Ran) [ false ↦ ends Spent u | true ↦ item_step w' r' i is p o (one_more u) ])
         by false = same_ends Spent u tt

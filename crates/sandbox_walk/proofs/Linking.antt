@@ -86,6 +86,7 @@ module _ (m : May) (ks run_ks : Kinds) where
 
   mutual
     unfolding shown Safe fresh SafeFresh
+
     pub good_safe : (h : Option Pi) (t : Tree) (k : Kind) → IsGoal k → AreGood (shown ks h t k) → Safe m run_ks t k
     good_safe h t Plain e g = absurd e
     good_safe h (variable n) Part e g = absurd g.1.0
@@ -146,7 +147,7 @@ module _ (rows : Rows) (p : List Clause) (known : Pi → Bool) (run_ks : Kinds) 
   goal_safe : Safe MayRun run_ks g (Adds 0)
   goal_safe =
       good_safe MayRun (kinds_in rows) run_ks None g (Adds 0) tt
-        (all_good MayRun (kinds_in rows) run_ks (in_goal rows g) (λ i h. (inl (by_goal i h), read_alike i (by_goal i h))) ok.goal)
+      (all_good MayRun (kinds_in rows) run_ks (in_goal rows g) (λ i h. (inl (by_goal i h), read_alike i (by_goal i h))) ok.goal)
 
   module _ (i : Pi) (r : Reach rows p g i) (e : IsTrue (enters rows p i)) where
     each_passes : (cs : List Clause) → ((j : Pi) → IsTrue (has_literal j (flat_map (in_clause rows) cs)) → Reach rows p g j) → list_all opens (flat_map (in_clause rows) cs) ≡ true → AllPassOn MayRun run_ks cs
@@ -155,10 +156,11 @@ module _ (rows : Rows) (p : List Clause) (known : Pi → Bool) (run_ks : Kinds) 
         let q = all_parts opens (in_clause rows c) (flat_map (in_clause rows) cs) o in
         let safe : Safe MayRun run_ks c.body Part =
         good_safe MayRun (kinds_in rows) run_ks None c.body Part tt
-          (all_good MayRun (kinds_in rows) run_ks (in_clause rows c)
-            (λ j h. let x : Reach rows p g j = reach j (any_left (is_literal j) (in_clause rows c) (flat_map (in_clause rows) cs) h) in (inl x, read_alike j x)) q.0) in
-        ( (λ s h. safe_instance MayRun run_ks s c.body Part safe)
-        , each_passes cs (λ j h. reach j (any_right (is_literal j) (in_clause rows c) (flat_map (in_clause rows) cs) h)) q.1 )
+        (all_good MayRun (kinds_in rows) run_ks (in_clause rows c)
+        (λ j h. let x : Reach rows p g j = reach j (any_left (is_literal j) (in_clause rows c) (flat_map (in_clause rows) cs) h) in (inl x, read_alike j x)) q.0) in (
+          (λ s h. safe_instance MayRun run_ks s c.body Part safe),
+          each_passes cs (λ j h. reach j (any_right (is_literal j) (in_clause rows c) (flat_map (in_clause rows) cs) h)) q.1,
+        )
 
     entered_passes : AllPassOn MayRun run_ks (clauses_of i p)
     entered_passes = each_passes (clauses_of i p) (λ j h. by_clause i j r e h) (ok.clauses i r e)
@@ -182,11 +184,11 @@ module _ (rows : Rows) (p : List Clause) (known : Pi → Bool) (run_ks : Kinds) 
       (t : Tree) → Same (query w g t) (query w' g t)
   sound w w' e clauses replies limit inside prims t =
       query_same MayRun run_ks (acc.knows MayRun (λ i h. inr h)) w w'
-        (record {
-          same_clauses = clauses;
-          same_replies = replies;
-          same_limit = limit;
-          inside = λ i h. inside i (may_inside i h);
-          pass_on = λ i h. subst (λ (cs : List Clause). AllPassOn MayRun run_ks (clauses_of i cs)) (sym e) (clauses_pass i h);
-          same_primitives = λ i ts v h none n. prims i ts v (may_inside i h) (ap (clauses_of i) (sym e) ∙ none) n;
-        }) g t goal_safe
+      (record {
+        same_clauses = clauses;
+        same_replies = replies;
+        same_limit = limit;
+        inside = λ i h. inside i (may_inside i h);
+        pass_on = λ i h. subst (λ (cs : List Clause). AllPassOn MayRun run_ks (clauses_of i cs)) (sym e) (clauses_pass i h);
+        same_primitives = λ i ts v h none n. prims i ts v (may_inside i h) (ap (clauses_of i) (sym e) ∙ none) n;
+      }) g t goal_safe

@@ -259,6 +259,7 @@ module _ (S : End → Type 0) (sub : (e : End) → S e → IsStopped e) (n : ℕ
   )
 
   module _ (w w' : World) (clauses : w'.clauses ≡ w.clauses) (primitives : w'.primitive ≡ w.primitive) (replies : (k : ℕ) → IsFurther S (slice_get w.replies k) (slice_get w'.replies k)) (limits : w.limit ≤ w'.limit) (spent : w.limit < w'.limit → S Spent) (limit : w.limit ≡ n) where
+
   outer_further : (a b : Ran) → GoesOn S n a b → GoesOn S n (without_answers a) (without_answers b)
   outer_further a b g = record {
     stopped = g.stopped;
