@@ -7,7 +7,7 @@ use std::process::Abort;
 use std::test::Fail;
 
 // Terms compared, made and taken apart.
-const TERMS: [(&str, &str, &str); 68] = [
+static TERMS: [(&str, &str, &str); 68] = [
     ("X = a", "X", "success([a],false)"),
     ("unify_with_occurs_check(X,f(X))", "x", "failure"),
     ("f(X) == f(X)", "x", "success([x],false)"),
@@ -183,7 +183,7 @@ const TERMS: [(&str, &str, &str); 68] = [
 ];
 
 // Values of expressions.
-const VALUES: [(&str, &str, &str); 40] = [
+static VALUES: [(&str, &str, &str); 40] = [
     ("X is -7 // 2", "X", "success([-3],false)"),
     ("X is -7 mod 2", "X", "success([1],false)"),
     ("X is -7 rem 2", "X", "success([-1],false)"),
@@ -323,7 +323,7 @@ const VALUES: [(&str, &str, &str); 40] = [
 ];
 
 // The characters of an atom, and two atoms as one.
-const LENGTHS: [(&str, &str, &str); 35] = [
+static LENGTHS: [(&str, &str, &str); 35] = [
     ("atom_length(hello,N)", "N", "success([5],false)"),
     ("atom_length('',N)", "N", "success([0],false)"),
     ("atom_length('é€😀',N)", "N", "success([3],false)"),
@@ -430,7 +430,7 @@ const LENGTHS: [(&str, &str, &str); 35] = [
 ];
 
 // The parts of an atom.
-const PARTS: [(&str, &str, &str); 18] = [
+static PARTS: [(&str, &str, &str); 18] = [
     (
         "sub_atom(abc,B,2,A,S)",
         "[B,A,S]",
@@ -492,7 +492,7 @@ const PARTS: [(&str, &str, &str); 18] = [
 ];
 
 // Atoms as lists of characters and of codes.
-const CHARACTERS: [(&str, &str, &str); 47] = [
+static CHARACTERS: [(&str, &str, &str); 47] = [
     ("atom_chars(hello,L)", "L", "success([[h,e,l,l,o]],false)"),
     ("atom_chars('',L)", "L", "success([[]],false)"),
     ("atom_chars('é€',L)", "L", "success([['é','€']],false)"),
@@ -643,7 +643,7 @@ const CHARACTERS: [(&str, &str, &str); 47] = [
 ];
 
 // Integers as lists of characters and of codes, and as atoms.
-const NUMBERS: [(&str, &str, &str); 50] = [
+static NUMBERS: [(&str, &str, &str); 50] = [
     ("number_chars(X,\"12\")", "X", "success([12],false)"),
     ("number_chars(X,\"-7\")", "X", "success([-7],false)"),
     ("number_chars(2,\" 02\")", "x", "success([x],false)"),
@@ -809,7 +809,7 @@ const NUMBERS: [(&str, &str, &str); 50] = [
 ];
 
 // Sorted lists, and the cells of a list.
-const SORTS: [(&str, &str, &str); 28] = [
+static SORTS: [(&str, &str, &str); 28] = [
     ("msort([b,a,c,a],L)", "L", "success([[a,a,b,c]],false)"),
     (
         "msort([f(x),b,1,Z,-1],L)",

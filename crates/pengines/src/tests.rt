@@ -55,7 +55,7 @@ const REFUSED: Case = Case {
     ..DONE
 };
 
-const ANSWERS: [Case; 22] = [
+static ANSWERS: [Case; 22] = [
     DONE,
     Case {
         name: "rules",
@@ -185,7 +185,7 @@ const ANSWERS: [Case; 22] = [
     },
 ];
 
-const CONTROL: [Case; 8] = [
+static CONTROL: [Case; 8] = [
     Case {
         name: "a term that would hold itself",
         input: b"---\nask(X=f(X))\n",
@@ -236,7 +236,7 @@ const CONTROL: [Case; 8] = [
     },
 ];
 
-const PROMPTS: [Case; 12] = [
+static PROMPTS: [Case; 12] = [
     Case {
         name: "a prompt and its reply",
         input: b"---\nask(pengine_input(name,N))\nnext\nrespond(f(Y))\n",
@@ -311,7 +311,7 @@ const PROMPTS: [Case; 12] = [
     },
 ];
 
-const SOLUTIONS: [Case; 15] = [
+static SOLUTIONS: [Case; 15] = [
     Case {
         name: "all solutions",
         input: b"t(1). t(2).\n---\nask(findall(X,t(X),L))\n",
@@ -404,7 +404,7 @@ const SOLUTIONS: [Case; 15] = [
     },
 ];
 
-const REFUSALS: [Case; 19] = [
+static REFUSALS: [Case; 19] = [
     Case {
         name: "other word",
         word: "sessions",
@@ -524,7 +524,7 @@ const REFUSALS: [Case; 19] = [
     },
 ];
 
-const FAULTS: [Case; 4] = [
+static FAULTS: [Case; 4] = [
     Case {
         name: "second read fails",
         read_fails: &[2],
@@ -583,7 +583,7 @@ const INTEGER_ROWS: Case = Case {
     ..DONE
 };
 
-const LIBRARY: [Case; 6] = [
+static LIBRARY: [Case; 6] = [
     LIST_ROWS,
     GOAL_ROWS,
     INTEGER_ROWS,
@@ -608,7 +608,7 @@ const LIBRARY: [Case; 6] = [
 ];
 
 /// Lengths of lists, which need `'$skip_list'/3`, and the lengths of names that are found, which need `findall/3` and `atom_length/2`.
-const LENGTHS: [Case; 3] = [
+static LENGTHS: [Case; 3] = [
     Case {
         name: "a list of a length",
         input: b"---\nask(length(L,2))\n",
