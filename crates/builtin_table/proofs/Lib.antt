@@ -1,5 +1,4 @@
 pub mod Bits
-pub mod InOrder
 pub mod Powers
 pub mod Remainders
 pub mod Shifts

@@ -1,6 +1,5 @@
 pub mod Arithmetic
 pub mod Errors
-pub mod InOrder
 pub mod Lists
 pub mod Numbers
 pub mod Outcomes

@@ -7,7 +7,7 @@ use Rattle.term_core.specs.Order.{tree_cmp}
 use Rattle.term_core.specs.Parts.{arguments_of}
 use Rattle.term_core.specs.Variables.{variables, numbered, renamed, first_free}
 use Rattle.builtin_table.specs.Errors.{two_arguments}
-use Rattle.builtin_table.specs.InOrder.{sorted, sorted_set}
+use Rattle.builtin_table.specs.Sorting.{sorted, sorted_set}
 use Rattle.builtin_table.specs.Lists.{list_of, rest}
 use Rattle.builtin_table.specs.Primitives.{Offer}
 

@@ -5,7 +5,7 @@ use Rattle.term_core.specs.declared.node.Node.{Node}
 use Rattle.term_core.specs.declared.node.Node.TheVariants as node
 use Rattle.term_core.specs.Tree.{Tree}
 use Rattle.term_core.specs.Order.{tree_cmp}
-use Rattle.builtin_table.specs.InOrder.{sorted_set}
+use Rattle.builtin_table.specs.Sorting.{sorted_set}
 use Rattle.builtin_table.specs.Primitives.{Offer}
 use Rattle.builtin_table.specs.Solutions.{Keyed, findall_offers, group_offers}
 use Rattle.solve_model.specs.declared.solutions.Arrangement.{Arrangement}

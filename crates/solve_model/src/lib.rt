@@ -26,6 +26,3 @@ pub use answers::{Trace, TraceEnd, TraceMark};
 pub use laws::{marks_stand, more_only_adds, prompts_take_replies};
 pub use solver::trace;
 pub use work::MAX_WORK;
-
-#[cfg(test)]
-mod tests;

@@ -3,7 +3,7 @@ ghost use Rattle.std.specs.Prelude.{◌≡◌, ◌≤◌, ◌∷◌, Bool, map, 
 ghost use Rattle.std.specs.Ordering.{is_eq};
 ghost use Rattle.term_core.specs.declared.node.Node.TheVariants.{Comp};
 ghost use Rattle.term_core.specs.Tree.{Tree, variable};
-ghost use Rattle.builtin_table.specs.InOrder.{sorted};
+ghost use Rattle.builtin_table.specs.Sorting.{sorted};
 ghost use Rattle.builtin_table.specs.Solutions.{Keyed, behind_carets, carets as carets_of, grouped as grouped_of, group_offer as group_offer_of, key_cmp, keyed as keyed_of, parts as parts_of, witness as witness_of};
 ghost use Rattle.prims_tree.specs.Views.{offer_of};
 ghost use Rattle.solve_model.specs.Collecting.{arranged as arranged_of, first_is_other, groups_of, is_caret_node, offers_by};

@@ -4,7 +4,7 @@ use Rattle.std.specs.Ordering.{eq_by_cmp}
 use Rattle.std.proofs.lemmas.List.Filters.{dedup_is}
 use Rattle.term_core.specs.Order.{tree_cmp}
 use Rattle.term_core.specs.OrderLaws.{tree_cmp_total}
-use Rattle.builtin_table.proofs.InOrder.{sorted_is}
+use Rattle.builtin_table.proofs.Sorting.{sorted_is}
 use Rattle.solve_model.proofs.solutions.arranged.Goals as goal
 
 pub returns-in_ok-sort-in-Sorted : goal.returns-in_ok-sort-in-Sorted

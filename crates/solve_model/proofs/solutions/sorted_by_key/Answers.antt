@@ -3,7 +3,7 @@ use Rattle.std.proofs.lemmas.Cmp.{on_total}
 use Rattle.std.proofs.lemmas.List.Sorted.{ranks_by, answers_always}
 use Rattle.term_core.specs.OrderLaws.{tree_cmp_total}
 use Rattle.builtin_table.specs.Solutions.{Keyed, key_cmp}
-use Rattle.builtin_table.proofs.InOrder.{sorted_is}
+use Rattle.builtin_table.proofs.Sorting.{sorted_is}
 use Rattle.solve_model.proofs.solutions.sorted_by_key.Goals as goal
 
 pub returns : goal.returns
