@@ -258,8 +258,6 @@ module _ (S : End → Type 0) (sub : (e : End) → S e → IsStopped e) (n : ℕ
     }),
   )
 
-  module _ (w w' : World) (clauses : w'.clauses ≡ w.clauses) (primitives : w'.primitive ≡ w.primitive) (replies : (k : ℕ) → IsFurther S (slice_get w.replies k) (slice_get w'.replies k)) (limits : w.limit ≤ w'.limit) (spent : w.limit < w'.limit → S Spent) (limit : w.limit ≡ n) where
-
   outer_further : (a b : Ran) → GoesOn S n a b → GoesOn S n (without_answers a) (without_answers b)
   outer_further a b g = record {
     stopped = g.stopped;
@@ -281,7 +279,7 @@ module _ (S : End → Type 0) (sub : (e : End) → S e → IsStopped e) (n : ℕ
           subst (λ (x : Ran). IsLonger S n (after (without_answers x) (k x.marks)) (after (without_answers b) (k' b.marks))) (sym e) (longer_within (without_answers b) (k b.marks) (k' b.marks) (both b.marks).1)
       go (inr s) = inr (longer_further l (without_answers a) (without_answers b) (k a.marks) (k' b.marks) (outer_further a b s) (ps a.marks) (both b.marks).0)
 
-  module _ (w w' : World) (clauses : w'.clauses ≡ w.clauses) (primitives : w'.primitive ≡ w.primitive) (limits : w.limit ≤ w'.limit) (spent : w.limit < w'.limit → S Spent) (limit : w.limit ≡ n) where
+  module _ (w w' : World) (clauses : w'.clauses ≡ w.clauses) (primitives : w'.primitive ≡ w.primitive) (replies : (k : ℕ) → IsFurther S (slice_get w.replies k) (slice_get w'.replies k)) (limits : w.limit ≤ w'.limit) (spent : w.limit < w'.limit → S Spent) (limit : w.limit ≡ n) where
     grows_kept : (m : ℕ) → IsKept (Grows w'.limit m) w w'
     grows_kept m = record {
       at_end = λ e x u. grows_ends w'.limit m e u;
