@@ -14,6 +14,7 @@ mod query;
 mod request;
 mod rest;
 mod settings;
+mod spec;
 mod stop;
 mod stops;
 mod text;
@@ -29,6 +30,7 @@ pub use print::line;
 pub use request::{Ask, Request};
 pub use rest::Rest;
 pub use settings::Settings;
+pub use spec::{Id, Spec};
 pub use stop::Stop;
 pub use text::fits;
 

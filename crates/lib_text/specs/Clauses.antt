@@ -1,11 +1,15 @@
 -- The library, as its source text reads.
-use Rattle.std.specs.Prelude.{List, [], map, Result, Ok, Err}
+use Rattle.std.specs.Prelude.{◌≡◌, ℕ, List, [], map, Result, Ok, Err}
 use Rattle.prolog_read.specs.declared.fault.ReadFault.{ReadFault}
 use Rattle.prolog_read.specs.Clauses.{iso}
 use Rattle.prolog_read.specs.Outcome.{ReadAs, clauses_read}
 use Rattle.program.specs.Clauses.{Clause}
 use Rattle.program.specs.Source.{clauses_in}
 use Rattle.lib_text.specs.declared.text.TheConstants.{SOURCE}
+
+-- the text reads as terms
+abbrev pub IsRead : List ℕ → Type 0
+IsRead text = (xs : List ReadAs) × (clauses_read iso text ≡ Ok xs)
 
 -- the clauses of a text that reads so; a text that can't be read has none
 abbrev pub clauses_from : Result (List ReadAs) ReadFault → List Clause

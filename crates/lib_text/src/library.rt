@@ -1,11 +1,11 @@
-ghost use Rattle.std.specs.Prelude.{◌≡◌, IfOk};
+ghost use Rattle.std.specs.Prelude.{◌≡◌, IfOk, OnOk};
 ghost use Rattle.prolog_read.specs.Clauses.{iso};
 ghost use Rattle.prolog_read.specs.Outcome.{clauses_read};
 ghost use Rattle.program.specs.Source.{AreNumbered, clauses_in, trees_read};
-ghost use Rattle.lib_text.specs.Clauses.{clauses_from};
+ghost use Rattle.lib_text.specs.Clauses.{clauses_from, IsRead};
 
 use crate::text::source;
-use prolog_read::{ReadFault, read_clauses};
+use prolog_read::read_clauses;
 use std::alloc::Global;
 use std::marker::Model;
 use term_core::{Memory, ReadTerm};
@@ -33,14 +33,16 @@ impl Model for Library {
 }
 
 impl Library {
-    ghost use Rattle.std.specs.Prelude.{◌≡◌, IfOk};
+    ghost use Rattle.std.specs.Prelude.{◌≡◌, IfOk, OnOk};
     ghost use Rattle.program.specs.Source.{AreNumbered, clauses_in, trees_read};
-    ghost use Rattle.lib_text.specs.Clauses.{library_clauses};
+    ghost use Rattle.lib_text.specs.Clauses.{library_clauses, IsRead};
+    ghost use Rattle.lib_text.specs.declared.text.TheConstants.{SOURCE};
 
-    /// Reads the library's source text.
+    /// Reads the library's source text, which can be read.
     #[tactic(auto, unfolding(crate::specs::Clauses::library_clauses))]
     pub fn read(alloc: Global) -> Result<Library, Memory>
-        ensures { IfOk result (λ l. l ≡ library_clauses) }
+        ensures clauses { IfOk result (λ l. l ≡ library_clauses) }
+        ensures read { OnOk result (IsRead SOURCE.now) }
     {
         let terms = terms_of(alloc, source())?;
         Ok(Library { terms })
@@ -55,14 +57,14 @@ impl Library {
     }
 }
 
-// The terms of a text; none of one that can't be read.
+// The terms of a text that can be read.
 fn terms_of(alloc: Global, text: &str) -> Result<Vec<ReadTerm>, Memory>
     ensures numbered { IfOk result (λ v. AreNumbered v.items) }
     ensures clauses { IfOk result (λ v. clauses_in false (trees_read v.items) ≡ clauses_from (clauses_read iso text.now)) }
+    ensures read { OnOk result (IsRead text.now) }
 {
     match read_clauses(alloc, text) {
         Ok(terms) => Ok(terms),
-        Err(ReadFault::Memory) => Err(Memory),
-        Err(_) => Ok(Vec::new(alloc)),
+        Err(_) => Err(Memory),
     }
 }

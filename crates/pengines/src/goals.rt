@@ -6,8 +6,11 @@ use std::alloc::Global;
 use std::process::Abort;
 use std::test::Fail;
 
-// Terms compared, made and taken apart.
-static TERMS: [(&str, &str, &str); 68] = [
+// A goal, the template of its answers, and its line.
+type Row = (&'static str, &'static str, &'static str);
+
+static TERMS: [Row; 108] = [
+    // Terms compared, made and taken apart.
     ("X = a", "X", "success([a],false)"),
     ("unify_with_occurs_check(X,f(X))", "x", "failure"),
     ("f(X) == f(X)", "x", "success([x],false)"),
@@ -180,10 +183,7 @@ static TERMS: [(&str, &str, &str); 68] = [
         "x",
         "error(error(existence_error(procedure,var/2),none))",
     ),
-];
-
-// Values of expressions.
-static VALUES: [(&str, &str, &str); 40] = [
+    // Values of expressions.
     ("X is -7 // 2", "X", "success([-3],false)"),
     ("X is -7 mod 2", "X", "success([1],false)"),
     ("X is -7 rem 2", "X", "success([-1],false)"),
@@ -322,8 +322,8 @@ static VALUES: [(&str, &str, &str); 40] = [
     ),
 ];
 
-// The characters of an atom, and two atoms as one.
-static LENGTHS: [(&str, &str, &str); 35] = [
+static TEXTS: [Row; 178] = [
+    // The characters of an atom, and two atoms as one.
     ("atom_length(hello,N)", "N", "success([5],false)"),
     ("atom_length('',N)", "N", "success([0],false)"),
     ("atom_length('é€😀',N)", "N", "success([3],false)"),
@@ -427,10 +427,7 @@ static LENGTHS: [(&str, &str, &str); 35] = [
         "x",
         "error(error(type_error(atomic,f(a)),atom_concat/3))",
     ),
-];
-
-// The parts of an atom.
-static PARTS: [(&str, &str, &str); 18] = [
+    // The parts of an atom.
     (
         "sub_atom(abc,B,2,A,S)",
         "[B,A,S]",
@@ -489,10 +486,7 @@ static PARTS: [(&str, &str, &str); 18] = [
         "x",
         "error(error(type_error(atom,f(x)),sub_atom/5))",
     ),
-];
-
-// Atoms as lists of characters and of codes.
-static CHARACTERS: [(&str, &str, &str); 47] = [
+    // Atoms as lists of characters and of codes.
     ("atom_chars(hello,L)", "L", "success([[h,e,l,l,o]],false)"),
     ("atom_chars('',L)", "L", "success([[]],false)"),
     ("atom_chars('é€',L)", "L", "success([['é','€']],false)"),
@@ -640,10 +634,7 @@ static CHARACTERS: [(&str, &str, &str); 47] = [
         "x",
         "error(error(representation_error(character_code),char_code/2))",
     ),
-];
-
-// Integers as lists of characters and of codes, and as atoms.
-static NUMBERS: [(&str, &str, &str); 50] = [
+    // Integers as lists of characters and of codes, and as atoms.
     ("number_chars(X,\"12\")", "X", "success([12],false)"),
     ("number_chars(X,\"-7\")", "X", "success([-7],false)"),
     ("number_chars(2,\" 02\")", "x", "success([x],false)"),
@@ -806,10 +797,7 @@ static NUMBERS: [(&str, &str, &str); 50] = [
         "x",
         "error(error(type_error(atom,f(x)),atom_number/2))",
     ),
-];
-
-// Sorted lists, and the cells of a list.
-static SORTS: [(&str, &str, &str); 28] = [
+    // Sorted lists, and the cells of a list.
     ("msort([b,a,c,a],L)", "L", "success([[a,a,b,c]],false)"),
     (
         "msort([f(x),b,1,Z,-1],L)",
@@ -908,7 +896,7 @@ static SORTS: [(&str, &str, &str); 28] = [
     ("'$skip_list'([a|b],1,T)", "T", "success([b],false)"),
 ];
 
-fn check_row(rt: &impl Abort, alloc: Global, row: (&str, &str, &str)) -> Result<(), Fail> {
+fn check_row(rt: &impl Abort, alloc: Global, row: Row) -> Result<(), Fail> {
     let (goal, template, line) = row;
     let words = vec![in alloc; String::from_str(alloc, "session")?]?;
     let script = format!(in alloc; "---\nask({goal},[template({template}),chunk(50)])\n")?;
@@ -922,7 +910,7 @@ fn check_row(rt: &impl Abort, alloc: Global, row: (&str, &str, &str)) -> Result<
     Ok(())
 }
 
-fn check_rows(rt: &impl Abort, alloc: Global, rows: &[(&str, &str, &str)]) -> Result<(), Fail> {
+fn check_rows(rt: &impl Abort, alloc: Global, rows: &'static [Row]) -> Result<(), Fail> {
     for row in rows {
         check_row(rt, alloc, *row)?;
     }
@@ -930,36 +918,11 @@ fn check_rows(rt: &impl Abort, alloc: Global, rows: &[(&str, &str, &str)]) -> Re
 }
 
 #[test]
-fn terms_compared_and_made(rt: HostRuntime) -> Result<(), Fail> {
+fn goals_on_terms_bring_their_lines(rt: HostRuntime) -> Result<(), Fail> {
     check_rows(&rt, rt.alloc(), &TERMS)
 }
 
 #[test]
-fn values_of_expressions(rt: HostRuntime) -> Result<(), Fail> {
-    check_rows(&rt, rt.alloc(), &VALUES)
-}
-
-#[test]
-fn lengths_and_concatenations(rt: HostRuntime) -> Result<(), Fail> {
-    check_rows(&rt, rt.alloc(), &LENGTHS)
-}
-
-#[test]
-fn parts_of_atoms(rt: HostRuntime) -> Result<(), Fail> {
-    check_rows(&rt, rt.alloc(), &PARTS)
-}
-
-#[test]
-fn characters_and_codes(rt: HostRuntime) -> Result<(), Fail> {
-    check_rows(&rt, rt.alloc(), &CHARACTERS)
-}
-
-#[test]
-fn numbers_as_texts(rt: HostRuntime) -> Result<(), Fail> {
-    check_rows(&rt, rt.alloc(), &NUMBERS)
-}
-
-#[test]
-fn sorted_lists(rt: HostRuntime) -> Result<(), Fail> {
-    check_rows(&rt, rt.alloc(), &SORTS)
+fn goals_on_texts_and_lists_bring_their_lines(rt: HostRuntime) -> Result<(), Fail> {
+    check_rows(&rt, rt.alloc(), &TEXTS)
 }
