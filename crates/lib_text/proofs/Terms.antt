@@ -1,5 +1,5 @@
 -- The clauses of what is read of a text.
-use Rattle.std.proofs.Common.{◌≡◌, List, map, Result, Ok, ap, sym, ◌∙◌}
+use Rattle.std.proofs.Common.{◌≡◌, false, List, map, Result, Ok, ap, sym, ◌∙◌}
 use Rattle.term_core.specs.declared.read_term.ReadTerm.{ReadTerm}
 use Rattle.prolog_read.specs.declared.fault.ReadFault.{ReadFault}
 use Rattle.prolog_read.specs.Outcome.{ReadAs, read_as}

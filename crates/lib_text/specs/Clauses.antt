@@ -1,5 +1,5 @@
 -- The library, as its source text reads.
-use Rattle.std.specs.Prelude.{◌≡◌, ℕ, List, [], map, Result, Ok, Err}
+use Rattle.std.specs.Prelude.{◌≡◌, ℕ, false, List, [], map, Result, Ok, Err}
 use Rattle.prolog_read.specs.declared.fault.ReadFault.{ReadFault}
 use Rattle.prolog_read.specs.Clauses.{iso}
 use Rattle.prolog_read.specs.Outcome.{ReadAs, clauses_read}

@@ -1,4 +1,4 @@
-ghost use Rattle.std.specs.Prelude.{◌≡◌, IfOk, OnOk};
+ghost use Rattle.std.specs.Prelude.{◌≡◌, false, IfOk, OnOk};
 ghost use Rattle.prolog_read.specs.Clauses.{iso};
 ghost use Rattle.prolog_read.specs.Outcome.{clauses_read};
 ghost use Rattle.program.specs.Source.{AreNumbered, clauses_in, trees_read};
@@ -17,7 +17,7 @@ pub struct Library {
 }
 
 impl Model for Library {
-    ghost use Rattle.std.specs.Prelude.{◌≡◌, List};
+    ghost use Rattle.std.specs.Prelude.{◌≡◌, false, List};
     ghost use Rattle.program.specs.Clauses as spec;
     ghost use Rattle.program.specs.Kept.{coded_clauses};
     ghost use Rattle.program.specs.Source.{AreNumbered, clauses_in, trees_read};
@@ -33,7 +33,7 @@ impl Model for Library {
 }
 
 impl Library {
-    ghost use Rattle.std.specs.Prelude.{◌≡◌, IfOk, OnOk};
+    ghost use Rattle.std.specs.Prelude.{◌≡◌, false, IfOk, OnOk};
     ghost use Rattle.program.specs.Source.{AreNumbered, clauses_in, trees_read};
     ghost use Rattle.lib_text.specs.Clauses.{library_clauses, IsRead};
     ghost use Rattle.lib_text.specs.declared.text.TheConstants.{SOURCE};

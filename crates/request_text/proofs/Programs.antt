@@ -1,5 +1,5 @@
 -- The program of a source text.
-use Rattle.std.proofs.Common.{◌≡◌, ℕ, List, map, Ok, Err, Option, Some, None, refl, ap, sym, ◌∙◌}
+use Rattle.std.proofs.Common.{true, ◌≡◌, ℕ, List, map, Ok, Err, Option, Some, None, refl, ap, sym, ◌∙◌}
 use Rattle.term_core.specs.declared.pi.Pi.{Pi}
 use Rattle.term_core.specs.declared.read_term.ReadTerm.{ReadTerm}
 use Rattle.prolog_read.specs.Clauses.{iso}

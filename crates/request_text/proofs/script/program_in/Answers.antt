@@ -1,4 +1,4 @@
-use Rattle.std.proofs.Common.{List, ◌∙◌, ap}
+use Rattle.std.proofs.Common.{true, List, ◌∙◌, ap}
 use Rattle.std.proofs.lemmas.Result.{err_from_is_err_and}
 use Rattle.builtin_table.specs.Table.{reserved_of}
 use Rattle.program.specs.Clauses.{Clause}
