@@ -617,7 +617,7 @@ static LENGTHS: [Case; 3] = [
     },
     Case {
         name: "lengths",
-        input: b"---\ncreate([destroy(false)])\nask(length([a,b],N),[template(N)])\nask(length(L,N),[template(L-N),chunk(2)])\nstop\nask(length([a|T],3),[template(T)])\nask(length([a|b],N))\nask(length(L,-1))\nask(length(L,a))\n",
+        input: b"---\ncreate([destroy(false),limit(100)])\nask(length([a,b],N),[template(N)])\nask(length(L,N),[template(L-N),chunk(2)])\nstop\nask(length([a|T],3),[template(T)])\nask(length([a|b],N))\nask(length(L,-1))\nask(length(L,a))\n",
         written: b"create\nsuccess([2],false)\nsuccess([[]-0,[_0]-1],true)\nstop\nsuccess([[_0,_1]],false)\nfailure\nfailure\nerror(error(type_error(integer,a),none))\n",
         ..DONE
     },
