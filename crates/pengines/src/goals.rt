@@ -322,7 +322,7 @@ static TERMS: [Row; 108] = [
     ),
 ];
 
-static TEXTS: [Row; 178] = [
+static ATOMS: [Row; 53] = [
     // The characters of an atom, and two atoms as one.
     ("atom_length(hello,N)", "N", "success([5],false)"),
     ("atom_length('',N)", "N", "success([0],false)"),
@@ -486,6 +486,9 @@ static TEXTS: [Row; 178] = [
         "x",
         "error(error(type_error(atom,f(x)),sub_atom/5))",
     ),
+];
+
+static CHARACTERS: [Row; 47] = [
     // Atoms as lists of characters and of codes.
     ("atom_chars(hello,L)", "L", "success([[h,e,l,l,o]],false)"),
     ("atom_chars('',L)", "L", "success([[]],false)"),
@@ -634,6 +637,9 @@ static TEXTS: [Row; 178] = [
         "x",
         "error(error(representation_error(character_code),char_code/2))",
     ),
+];
+
+static NUMBERS_AND_LISTS: [Row; 78] = [
     // Integers as lists of characters and of codes, and as atoms.
     ("number_chars(X,\"12\")", "X", "success([12],false)"),
     ("number_chars(X,\"-7\")", "X", "success([-7],false)"),
@@ -923,6 +929,16 @@ fn goals_on_terms_bring_their_lines(rt: HostRuntime) -> Result<(), Fail> {
 }
 
 #[test]
-fn goals_on_texts_and_lists_bring_their_lines(rt: HostRuntime) -> Result<(), Fail> {
-    check_rows(&rt, rt.alloc(), &TEXTS)
+fn goals_on_atoms_bring_their_lines(rt: HostRuntime) -> Result<(), Fail> {
+    check_rows(&rt, rt.alloc(), &ATOMS)
+}
+
+#[test]
+fn goals_on_characters_bring_their_lines(rt: HostRuntime) -> Result<(), Fail> {
+    check_rows(&rt, rt.alloc(), &CHARACTERS)
+}
+
+#[test]
+fn goals_on_numbers_and_lists_bring_their_lines(rt: HostRuntime) -> Result<(), Fail> {
+    check_rows(&rt, rt.alloc(), &NUMBERS_AND_LISTS)
 }
