@@ -7,6 +7,7 @@ pub mod Parts
 pub mod Pengines
 pub mod Pieces
 pub mod Reads
+pub mod Refusals
 pub mod Requests
 pub mod Standing
 pub mod Stops

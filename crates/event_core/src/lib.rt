@@ -11,6 +11,7 @@ mod pengine;
 mod piece;
 mod print;
 mod query;
+mod refusal;
 mod request;
 mod rest;
 mod settings;
@@ -27,6 +28,7 @@ pub use laws::{
 pub use limits::{CHUNK_BYTES, DEFAULT_LIMIT, MAX_DEPTH, MAX_LIMIT, MAX_TEXT};
 pub use pengine::Pengine;
 pub use print::line;
+pub use refusal::refusal;
 pub use request::{Ask, Request};
 pub use rest::Rest;
 pub use settings::Settings;
