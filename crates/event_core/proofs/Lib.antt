@@ -5,7 +5,9 @@ pub mod Growing
 pub mod Longer
 pub mod Parts
 pub mod Pieces
+pub mod Piecewise
 pub mod Prompts
+pub mod Reaching
 pub mod Reading
 pub mod Resting
 mod Rows

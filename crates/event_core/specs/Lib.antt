@@ -6,6 +6,7 @@ pub mod Lines
 pub mod Parts
 pub mod Pengines
 pub mod Pieces
+pub mod Reaching
 pub mod Reads
 pub mod Refusals
 pub mod Requests

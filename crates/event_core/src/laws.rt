@@ -25,3 +25,7 @@ pub fn chunks_dont_matter()
 pub fn enough_can_be_asked()
     ensures { EnoughCanBeAsked }
 {}
+
+pub fn temporary()
+    ensures { FurtherOnlyAdds }
+{}

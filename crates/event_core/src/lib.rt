@@ -11,7 +11,8 @@ mod pengine;
 mod piece;
 mod print;
 mod query;
-mod refusal;
+mod reached;
+mod refused;
 mod request;
 mod rest;
 mod settings;
@@ -21,6 +22,7 @@ mod stops;
 mod text;
 
 pub use event::{Event, Kind};
+pub use fit::{Fit, fit_of};
 pub use full::all_events;
 pub use laws::{
     chunks_dont_matter, enough_can_be_asked, further_only_adds, requests_only_add, steps_only_add,
@@ -28,7 +30,8 @@ pub use laws::{
 pub use limits::{CHUNK_BYTES, DEFAULT_LIMIT, MAX_DEPTH, MAX_LIMIT, MAX_TEXT};
 pub use pengine::Pengine;
 pub use print::line;
-pub use refusal::refusal;
+pub use reached::{Reached, reach};
+pub use refused::refusal;
 pub use request::{Ask, Request};
 pub use rest::Rest;
 pub use settings::Settings;

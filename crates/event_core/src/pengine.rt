@@ -10,7 +10,7 @@ ghost use Rattle.event_core.specs.Standing.{place_at, reading_at, IsRead, Stands
 use crate::event::{Event, Kind};
 use crate::fit::{Fit, fit_of};
 use crate::query::{Outcome, Place, Query, begin, end_with};
-use crate::refusal::refusal;
+use crate::refused::refusal;
 use crate::request::{Ask, Request};
 use crate::settings::Settings;
 use program::Program;
