@@ -54,11 +54,11 @@ module _ (m : May) (may : (i : Pi) → IsTrue (is_known i) → m i) (g : ℕ →
       given_in ts xs s.1 n k (subst (λ (b : Bool). IsTrue (b || has_goal (tree_list ts) xs n k)) (no_goal t Part n k (λ j e. cc)) h)
   given_in (tree t ts) (Behind ∷ xs) s n k h =
       given_in ts xs s.1 n k (subst (λ (b : Bool). IsTrue (b || has_goal (tree_list ts) xs n k)) (no_goal t Behind n k (λ j e. cc)) h)
-  given_in (tree t ts) (Adds j ∷ xs) s n k h = by (or_either (is_goal t (Adds j) n k) (has_goal (tree_list ts) xs n k) h)
+  given_in (tree t ts) (Adds j ∷ xs) s n k h = by (or_either (is_goal t (Adds j) n k) (has_goal (tree_list ts) xs n k) h) (given_in ts xs s.1 n k)
     where
-      by : IsTrue (is_goal t (Adds j) n k) ⊎ IsTrue (has_goal (tree_list ts) xs n k) → Safe m run_kinds (g n) (Adds k)
-      by (inl a) = given_at t j s.0 n k a
-      by (inr b) = given_in ts xs s.1 n k b
+      by : IsTrue (is_goal t (Adds j) n k) ⊎ IsTrue (has_goal (tree_list ts) xs n k) → (IsTrue (has_goal (tree_list ts) xs n k) → Safe m run_kinds (g n) (Adds k)) → Safe m run_kinds (g n) (Adds k)
+      by (inl a) rest = given_at t j s.0 n k a
+      by (inr b) rest = rest b
 
   -- ---- what a body does with it
 

@@ -147,17 +147,20 @@ module _ (p : List Clause) (kept : KeepsSandbox p) where
   not_true true e = cc
   not_true false e = refl
 
+  connective : (i : Pi) → (is_connective i.name && i.arity == 2) ≡ true → kinds_in standard i ≡ Part ∷ Part ∷ []
+  unfolding kinds_in
+  connective i e = rw e refl
+
   alike : (i : Pi) → Alike i
-  unfolding run_kinds kinds_in
-  alike i = by (is_connective i.name && i.arity == 2) (row_of i helpers) refl
+  unfolding run_kinds
+  alike i = by (is_connective i.name && i.arity == 2) (row_of i helpers) refl refl
     where
-      by : (b : Bool) (o : Option Row) → row_of i helpers ≡ o →
-          ((if b then Part ∷ Part ∷ [] else elim (row_of i standard) [ None ↦ [] | Some row ↦ map declared_kind row.metas ])
-          ≡ (if b then Part ∷ Part ∷ [] else elim o [ None ↦ kinds_in standard i | Some row ↦ map declared_kind row.metas ]))
+      by : (b : Bool) (o : Option Row) → (is_connective i.name && i.arity == 2) ≡ b → row_of i helpers ≡ o →
+          (kinds_in standard i ≡ (if b then Part ∷ Part ∷ [] else elim o as (λ x. List Kind) [ None ↦ kinds_in standard i | Some row ↦ map declared_kind row.metas ]))
           ⊎ (IsTrue (enters standard p i) × (list_all opens (in_predicate standard p i) ≡ false))
-      by true o e = inl refl
-      by false None e = inl cc
-      by false (Some r) e =
+      by true o c e = inl (connective i c)
+      by false None c e = inl refl
+      by false (Some r) c e =
           inr (ap (λ (b : Bool). is_own p i || b) (helper_free i r e) ∙ or_true (is_own p i), not_true (list_all opens (in_predicate standard p i)) (row_all (is_closed p) (λ r. true) helpers closed i r e refl))
 
   module _ (m : May) (may : (i : Pi) → IsTrue (is_known i) → m i) where
