@@ -404,7 +404,7 @@ static SOLUTIONS: [Case; 15] = [
     },
 ];
 
-static REFUSALS: [Case; 19] = [
+static REFUSALS: [Case; 21] = [
     Case {
         name: "other word",
         word: "sessions",
@@ -507,6 +507,18 @@ static REFUSALS: [Case; 19] = [
         name: "an option with a wrong value",
         input: b"---\ncreate([destroy(yes)])\n",
         said: b"pengines: line 1 refused at byte 0\n",
+        ..REFUSED
+    },
+    Case {
+        name: "an option that is mistyped",
+        input: b"---\n% two at once\ncreate([chunks(2)])\n",
+        said: b"pengines: line 2 refused at byte 0\n",
+        ..REFUSED
+    },
+    Case {
+        name: "a list of options that is mistyped",
+        input: b"---\ncreate([chunk 2])\n",
+        said: b"pengines: line 1 refused at byte 14\n",
         ..REFUSED
     },
     Case {
