@@ -22,20 +22,22 @@ source_text at = codes "pengines: source refused at byte " ++ decimal at
 abbrev pub clause_text : (clause : ℕ) → List ℕ
 clause_text n = codes "pengines: source refused at clause " ++ decimal n
 
+abbrev pub goal_text : (at : ℕ) → List ℕ
+goal_text at = codes "pengines: goal refused at byte " ++ decimal at
+
 abbrev pub line_text : (line at : ℕ) → List ℕ
 line_text n at = ((codes "pengines: line " ++ decimal n) ++ codes " refused at byte ") ++ decimal at
 
--- Want of memory is no refusal.
+-- Want of memory is no refusal. A script has no query or template outside of its lines.
 abbrev pub refusal_text : ScriptFault → List ℕ
 refusal_text (Utf8 at) = source_text at
 refusal_text (Spec (spec.Source e)) = source_text (place_of e)
 refusal_text (Spec (spec.Clause f)) = clause_text (clause_of f)
+refusal_text (Spec (spec.Ask e)) = goal_text (place_of e)
+refusal_text (Spec (spec.Template e)) = goal_text (place_of e)
 refusal_text (Line n at) = line_text n at
 refusal_text (Spec spec.Memory) = codes "pengines: no memory"
 refusal_text Memory = codes "pengines: no memory"
-
-abbrev pub goal_text : (at : ℕ) → List ℕ
-goal_text at = codes "pengines: goal refused at byte " ++ decimal at
 
 abbrev pub text_of : Refusal → List ℕ
 text_of (refusal.Script f) = refusal_text f

@@ -4,9 +4,7 @@ ghost use Rattle.outside.specs.Faults.{Rose};
 ghost use Rattle.builtin_table.specs.Table.{standard};
 ghost use Rattle.prolog_read.specs.Clauses.{iso};
 ghost use Rattle.prolog_read.specs.Outcome.{term_read};
-ghost use Rattle.request_text.specs.declared.fault.SpecFault.TheVariants as spec_fault;
 ghost use Rattle.request_text.specs.declared.fault.ScriptFault.TheVariants as script_fault;
-ghost use Rattle.request_text.specs.Spelled.{program_in};
 ghost use Rattle.sandbox_walk.specs.Computed.{verdict};
 ghost use Rattle.pengines.specs.declared.input.InputStop.TheVariants as input_stop;
 ghost use Rattle.pengines.specs.declared.refusal.Refusal.TheVariants as refusal_kind;
@@ -18,14 +16,13 @@ ghost use Rattle.pengines.specs.Session.{IsTooLong, Unchanged};
 use crate::input::{InputStop, read_input};
 use crate::output::{WriteFault, with_line_end, write_all};
 use crate::refusal::Refusal;
-use builtin_table::Table;
 use lib_text::Library;
 use op_table::Ops;
 use outside::{Sink, Source};
 use program::Program;
-use prolog_read::{ReadFault, read_clauses, read_term};
+use prolog_read::{ReadFault, read_term};
 use prolog_write::{Mode, text};
-use request_text::{ScriptFault, SpecFault, place_of};
+use request_text::{ScriptFault, place_of, program_in};
 use sandbox_walk::{Unsafe, check};
 use std::alloc::Global;
 use std::sync::Arc;
@@ -204,19 +201,4 @@ fn source_in(alloc: Global, library: &Library, input: &[u8]) -> Result<Program, 
             at: error.valid_up_to() as u64,
         }),
     }
-}
-
-/// The program that a source text spells over the library.
-fn program_in(alloc: Global, library: &Library, text: &str) -> Result<Program, SpecFault>
-    ensures program { IfOk result (λ p. program_in text.now ≡ Ok p) }
-    ensures refused { IfErr result (λ e. e ≢ spec_fault.Memory → program_in text.now ≡ Err e) }
-{
-    let clauses = match read_clauses(alloc, text) {
-        Ok(clauses) => clauses,
-        Err(ReadFault::Memory) => return Err(SpecFault::Memory),
-        Err(fault) => return Err(SpecFault::Source(fault)),
-    };
-    let table = Table::standard(alloc)?;
-    let program = Program::from_terms(alloc, clauses, library.terms(), table.reserved())?;
-    Ok(program)
 }

@@ -93,6 +93,12 @@ fn clause_text(alloc: Global, clause: u64) -> Result<Vec<u8>, Memory>
     with_number(alloc, b"pengines: source refused at clause ", clause)
 }
 
+fn goal_text(alloc: Global, at: u64) -> Result<Vec<u8>, Memory>
+    ensures { IfOk result (λ t. t.items ≡ goal_text at) }
+{
+    with_number(alloc, b"pengines: goal refused at byte ", at)
+}
+
 fn line_text(alloc: Global, line: u64, at: u64) -> Result<Vec<u8>, Memory>
     ensures { IfOk result (λ t. t.items ≡ line_text line at) }
 {
@@ -110,18 +116,15 @@ fn refusal_text(alloc: Global, fault: &ScriptFault) -> Result<Vec<u8>, Memory>
         ScriptFault::Utf8 { at } => source_text(alloc, *at)?,
         ScriptFault::Spec(SpecFault::Source(fault)) => source_text(alloc, place_of(*fault))?,
         ScriptFault::Spec(SpecFault::Clause(fault)) => clause_text(alloc, clause_of(fault))?,
+        ScriptFault::Spec(SpecFault::Ask(fault) | SpecFault::Template(fault)) => {
+            goal_text(alloc, place_of(*fault))?
+        }
         ScriptFault::Line { line, at } => line_text(alloc, *line, *at)?,
         ScriptFault::Spec(SpecFault::Memory) | ScriptFault::Memory => {
             Vec::from_slice(alloc, b"pengines: no memory")?
         }
     };
     Ok(text)
-}
-
-fn goal_text(alloc: Global, at: u64) -> Result<Vec<u8>, Memory>
-    ensures { IfOk result (λ t. t.items ≡ goal_text at) }
-{
-    with_number(alloc, b"pengines: goal refused at byte ", at)
 }
 
 /// The text that says why a command's text is refused.

@@ -5,7 +5,7 @@ use Rattle.program.specs.Clauses.{Clause}
 use Rattle.program.specs.Source.{clauses_in, program_of, trees_read}
 use Rattle.lib_text.proofs.Reading.{all_numbered}
 use Rattle.request_text.proofs.Programs.{program_made, program_refused}
-use Rattle.request_text.proofs.script.program_in.Goals as goal
+use Rattle.request_text.proofs.spec.program_in.Goals as goal
 
 pub from_terms-requires-clause-own_numbered : goal.from_terms-requires-clause-own_numbered
 from_terms-requires-clause-own_numbered c = all_numbered c.in-Ok.clauses.items c.in-Ok.ensures.numbered
