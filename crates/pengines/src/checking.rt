@@ -8,7 +8,7 @@ ghost use Rattle.request_text.specs.declared.fault.ScriptFault.TheVariants as sc
 ghost use Rattle.sandbox_walk.specs.Computed.{verdict};
 ghost use Rattle.pengines.specs.declared.input.InputStop.TheVariants as input_stop;
 ghost use Rattle.pengines.specs.declared.refusal.Refusal.TheVariants as refusal_kind;
-ghost use Rattle.pengines.specs.declared.refusal.Refusal.{Refusal as Refused};
+ghost use Rattle.pengines.specs.declared.refusal.Refusal.{Refusal as Reason};
 ghost use Rattle.pengines.specs.Checking.{source_in, goal_read, judged, verdict_text, Judges, Checked, CheckedPart};
 ghost use Rattle.pengines.specs.Output.{line};
 ghost use Rattle.pengines.specs.Session.{IsTooLong, Unchanged};
@@ -104,7 +104,7 @@ pub fn run_check<S: Source, K: Sink>(
         Rose (S.faults src.old) (S.faults src.new)
         × Unchanged K.taken out.old out.new }
 
-    ensures refused { (r : Refused) → IsErrOf result (CheckStop.Refused r) →
+    ensures refused { (r : Reason) → IsErrOf result (CheckStop.Refused r) →
         (r ≢ refusal_kind.Memory → Judges S.left src.old src.new goal.now (Err r))
         × Unchanged K.taken out.old out.new }
 
@@ -159,16 +159,16 @@ fn judged(
 {
     let program = source_in(alloc, library, input)?;
     let goal = goal_in(alloc, goal)?;
-    let program = Arc::new(alloc, program)?;
-    let verdict = verdict_on(alloc, &program, &goal)?;
+    let verdict = verdict_on(alloc, program, &goal)?;
     Ok(verdict)
 }
 
 /// The sandbox's verdict on a goal.
-fn verdict_on(alloc: Global, program: &Arc<Program>, goal: &Term) -> Result<Option<Unsafe>, Memory>
-    ensures { IfOk result (λ v. v ≡ verdict standard program.now.value goal.now) }
+fn verdict_on(alloc: Global, program: Program, goal: &Term) -> Result<Option<Unsafe>, Memory>
+    ensures { IfOk result (λ v. v ≡ verdict standard program goal.now) }
 {
-    match check(alloc, program, goal) {
+    let program = Arc::new(alloc, program)?;
+    match check(alloc, &program, goal) {
         Ok(_) => Ok(None),
         Err(Unsafe::Memory) => Err(Memory),
         Err(refusal) => Ok(Some(refusal)),

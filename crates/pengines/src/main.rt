@@ -5,13 +5,13 @@
 #![tactic(auto)]
 
 mod checking;
+mod command;
 mod input;
 mod output;
 mod printing;
 mod refusal;
 mod run;
 mod session;
-mod words;
 
 use output::say;
 use outside::{StdSink, StdSource};

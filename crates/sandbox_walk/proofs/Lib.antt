@@ -5,6 +5,7 @@ pub mod Instances
 pub mod Joining
 pub mod Keeping
 pub mod Linking
+pub mod Loading
 pub mod Passing
 pub mod Reading
 pub mod Rounds

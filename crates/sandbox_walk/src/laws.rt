@@ -1,6 +1,6 @@
 // Laws that hold of every program and goal.
 ghost use Rattle.sandbox_walk.specs.Computed.{TheVerdictIsOne};
-ghost use Rattle.sandbox_walk.specs.Sound.{PassedGoalsStayInside, SafeGoalsStayInside};
+ghost use Rattle.sandbox_walk.specs.Sound.{PassedGoalsStayInside, SafeGoalsStayInside, LoadedProgramsKeepTheSandbox};
 
 /// A goal that passes doesn't end outside, and takes no primitive but of the classes Control, Safe and Meta: it runs the same
 /// whatever the others would do. This holds for every limit of steps and for all replies, over each program that keeps to the sandbox.
@@ -11,6 +11,11 @@ pub fn passed_goals_stay_inside()
 /// No run of a goal on which the verdict is that it may be asked ends outside, over a program that keeps to the sandbox.
 pub fn safe_goals_stay_inside()
     ensures { SafeGoalsStayInside }
+{}
+
+/// A program of a client's clauses that are accepted keeps to the sandbox, where the library does over which it is loaded.
+pub fn loaded_programs_keep_the_sandbox()
+    ensures { LoadedProgramsKeepTheSandbox }
 {}
 
 /// Each goal over each program has one verdict, that of the rounds: after as many of them as there are clauses nothing more is reached.

@@ -1,5 +1,5 @@
 use Rattle.std.proofs.Common.{Err, ap, inl, inr}
-use Rattle.pengines.proofs.run.run_plain.Goals as goal
+use Rattle.pengines.proofs.run.session_status.Goals as goal
 
 pub returns-in-Err-Refused-clause-refused : goal.returns-in-Err-Refused-clause-refused
 returns-in-Err-Refused-clause-refused g c =
