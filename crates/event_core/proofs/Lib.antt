@@ -9,7 +9,9 @@ pub mod Piecewise
 pub mod Prompts
 pub mod Reaching
 pub mod Reading
+pub mod Refusing
 pub mod Resting
+pub mod Rising
 mod Rows
 pub mod Standing
 pub mod Stepping

@@ -1,13 +1,13 @@
 -- Pieces one after the other, where further stops follow, come to the part of all stops.
-use Rattle.std.proofs.Common.{◌≡◌, ℕ, ◌≤◌, ◌<◌, Bool, true, false, ◌&&◌, if◌then◌else◌, List, [], ◌∷◌, ◌++◌, Option, Some, None, refl, ap, sym, subst, ◌∙◌, append-nil}
+use Rattle.std.proofs.Common.{◌≡◌, ℕ, zero, suc, ◌≤◌, ◌<◌, Bool, true, false, List, [], ◌∷◌, ◌++◌, length, drop, get_or, Some, None, refl, ap, sym, subst, ◌∙◌, append-nil, arith}
+use Rattle.std.proofs.Math.Seq.{drop-cons}
 use Rattle.std.specs.List.{All}
-use Rattle.std.specs.Prelude.{MatchOption}
 use Rattle.std.proofs.lemmas.List.Elements.{All-from_recursion, recursion_from_All}
 use Rattle.term_core.specs.Tree.{Tree}
 use Rattle.event_core.specs.declared.stop.Stop.{Stop}
 use Rattle.event_core.specs.declared.stop.Stop.TheVariants as stop
 use Rattle.event_core.specs.declared.event.Event.{Event}
-use Rattle.event_core.specs.declared.event.Event.TheVariants.{Success, Prompt}
+use Rattle.event_core.specs.declared.event.Event.TheVariants.{Success, Error, Prompt, Limit}
 use Rattle.event_core.specs.declared.request.Request.{Request}
 use Rattle.event_core.specs.declared.request.Request.TheVariants as request
 use Rattle.event_core.specs.declared.fit.Fit.{Fit}
@@ -15,7 +15,7 @@ use Rattle.event_core.specs.declared.fit.Fit.TheVariants.{GoesOn, Stops as Ends,
 use Rattle.event_core.specs.declared.rest.Rest.{Rest}
 use Rattle.event_core.specs.declared.rest.Rest.TheVariants.{More, Prompting, Over}
 use Rattle.event_core.specs.Requests.{fit, chunk_after}
-use Rattle.event_core.specs.Parts.{Part, gives, at_next, at_respond, after_chunk, is_full, part_of, part_step}
+use Rattle.event_core.specs.Parts.{Part, rests, gives, at_next, at_respond, after_chunk, is_full, part_of, part_step}
 use Rattle.event_core.specs.Pieces.{Piece, telling, piece_of, resumed, Seen, seen, adds}
 use Rattle.event_core.specs.Reads.{resumes, pieces_from}
 use Rattle.event_core.specs.Reaching.{IsBegun, IsWhole}
@@ -26,53 +26,53 @@ use Rattle.event_core.proofs.Standing.{nothing, goes_on}
 abbrev Stops : Type 0
 Stops = List (ℕ × Stop)
 
+-- ---- what one stop keeps of what the stops behind it give
+
+module _ (k : ℕ) (Q : Part → Type 0) (quiet : (r : Rest) (rs : List Request) → Q (rests r rs)) (one : (e : Event) (p : Part) → Q p → Q (gives k e p)) where
+  next_keeps : (rs : List Request) (c : ℕ) (go : ℕ → List Request → Part) → ((d : ℕ) (qs : List Request) → Q (go d qs)) → Q (at_next rs c go)
+  next_keeps [] c go h = quiet More []
+  next_keeps (request.Next None ∷ rs) c go h = h c rs
+  next_keeps (request.Next (Some d) ∷ rs) c go h = h d rs
+  next_keeps (request.Respond t ∷ rs) c go h = quiet More _
+  next_keeps (request.Ask a ∷ rs) c go h = quiet More _
+  next_keeps (request.Stop ∷ rs) c go h = quiet More _
+
+  respond_keeps : (rs : List Request) (go : List Request → Part) → ((qs : List Request) → Q (go qs)) → Q (at_respond rs go)
+  respond_keeps [] go h = quiet Prompting []
+  respond_keeps (request.Respond t ∷ rs) go h = h rs
+  respond_keeps (request.Next c ∷ rs) go h = quiet Prompting _
+  respond_keeps (request.Ask a ∷ rs) go h = quiet Prompting _
+  respond_keeps (request.Stop ∷ rs) go h = quiet Prompting _
+
+  chunk_keeps : (held : List Tree) (c : ℕ) (rs : List Request) (go : ℕ → List Request → Part) → ((d : ℕ) (qs : List Request) → Q (go d qs)) → Q (after_chunk held k c rs go)
+  chunk_keeps [] c rs go h = h c rs
+  chunk_keeps (t ∷ ts) c rs go h = one (Success (t ∷ ts) true) _ (next_keeps rs c go h)
+
+  pub step_keeps : (size : Tree → ℕ) (go : ℕ → List Tree → List Request → Part) → ((c : ℕ) (held : List Tree) (rs : List Request) → Q (go c held rs)) →
+      (s : Stop) (c : ℕ) (held : List Tree) (rs : List Request) → Q (part_step size go k s c held rs)
+  unfolding part_step
+  step_keeps size go ih (stop.Found t false) c held rs = one _ _ (quiet Over rs)
+  step_keeps size go ih (stop.Found t true) c held rs = at (is_full size c (held ++ t ∷ []))
+    where
+      at : (b : Bool) → Q (elim b as (λ y. Part) [ true ↦ gives k (Success (held ++ t ∷ []) true) (at_next rs c (λ d qs. go d [] qs)) | false ↦ go c (held ++ t ∷ []) rs ])
+      at true = one _ _ (next_keeps rs c (λ d qs. go d [] qs) (λ d qs. ih d [] qs))
+      at false = ih c (held ++ t ∷ []) rs
+  step_keeps size go ih (stop.Output t) c held rs = one _ _ (ih c held rs)
+  step_keeps size go ih (stop.Prompt t) c held rs = chunk_keeps held c rs _ (λ d qs. one (Prompt t) _ (respond_keeps qs (λ xs. go d [] xs) (λ xs. ih d [] xs)))
+  step_keeps size go ih stop.NoMore c [] rs = one _ _ (quiet Over rs)
+  step_keeps size go ih stop.NoMore c (t ∷ ts) rs = one _ _ (quiet Over rs)
+  step_keeps size go ih (stop.Ball b) c held rs = chunk_keeps held c rs _ (λ d qs. one (Error b) _ (quiet Over qs))
+  step_keeps size go ih stop.Limit c held rs = chunk_keeps held c rs _ (λ d qs. one Limit _ (quiet Over qs))
+  step_keeps size go ih (stop.Outside i) c held rs = quiet Over rs
+
 -- ---- the steps of events are those of stops
 
 module _ (P : ℕ → Type 0) where
-  abbrev Told : Part → Type 0
-  Told p = Each P p.events
-
-  next_each : (rs : List Request) (c : ℕ) (go : ℕ → List Request → Part) → ((d : ℕ) (qs : List Request) → Told (go d qs)) → Told (at_next rs c go)
-  next_each [] c go h = tt
-  next_each (request.Next None ∷ rs) c go h = h c rs
-  next_each (request.Next (Some d) ∷ rs) c go h = h d rs
-  next_each (request.Respond t ∷ rs) c go h = tt
-  next_each (request.Ask a ∷ rs) c go h = tt
-  next_each (request.Stop ∷ rs) c go h = tt
-
-  respond_each : (rs : List Request) (go : List Request → Part) → ((qs : List Request) → Told (go qs)) → Told (at_respond rs go)
-  respond_each [] go h = tt
-  respond_each (request.Respond t ∷ rs) go h = h rs
-  respond_each (request.Next c ∷ rs) go h = tt
-  respond_each (request.Ask a ∷ rs) go h = tt
-  respond_each (request.Stop ∷ rs) go h = tt
-
-  chunk_each : (held : List Tree) (k c : ℕ) (rs : List Request) (go : ℕ → List Request → Part) → P k → ((d : ℕ) (qs : List Request) → Told (go d qs)) → Told (after_chunk held k c rs go)
-  chunk_each [] k c rs go p h = h c rs
-  chunk_each (t ∷ ts) k c rs go p h = (p, next_each rs c go h)
-
-  module _ (size : Tree → ℕ) where
-    module _ (go : ℕ → List Tree → List Request → Part) (ih : (c : ℕ) (held : List Tree) (rs : List Request) → Told (go c held rs)) where
-      step_each : (k : ℕ) (s : Stop) (c : ℕ) (held : List Tree) (rs : List Request) → P k → Told (part_step size go k s c held rs)
-      unfolding part_step
-      step_each k (stop.Found t false) c held rs p = (p, tt)
-      step_each k (stop.Found t true) c held rs p = at (is_full size c (held ++ t ∷ []))
-        where
-          at : (b : Bool) → Told (elim b as (λ y. Part) [ true ↦ gives k (Success (held ++ t ∷ []) true) (at_next rs c (λ d qs. go d [] qs)) | false ↦ go c (held ++ t ∷ []) rs ])
-          at true = (p, next_each rs c (λ d qs. go d [] qs) (λ d qs. ih d [] qs))
-          at false = ih c (held ++ t ∷ []) rs
-      step_each k (stop.Output t) c held rs p = (p, ih c held rs)
-      step_each k (stop.Prompt t) c held rs p = chunk_each held k c rs _ p (λ d qs. (p, respond_each qs (λ xs. go d [] xs) (λ xs. ih d [] xs)))
-      step_each k stop.NoMore c [] rs p = (p, tt)
-      step_each k stop.NoMore c (t ∷ ts) rs p = (p, tt)
-      step_each k (stop.Ball b) c held rs p = chunk_each held k c rs _ p (λ d qs. (p, tt))
-      step_each k stop.Limit c held rs p = chunk_each held k c rs _ p (λ d qs. (p, tt))
-      step_each k (stop.Outside i) c held rs p = tt
-
-    pub events_each : (ps : Stops) → Each P ps → (c : ℕ) (held : List Tree) (rs : List Request) → Told (part_of size ps c held rs)
-    unfolding part_of
-    events_each [] h c held rs = tt
-    events_each (p ∷ ps) h c held rs = step_each (part_of size ps) (λ d hs qs. events_each ps h.1 d hs qs) p.0 p.1 c held rs h.0
+  pub events_each : (size : Tree → ℕ) (ps : Stops) → Each P ps → (c : ℕ) (held : List Tree) (rs : List Request) → Each P (part_of size ps c held rs).events
+  unfolding part_of
+  events_each size [] h c held rs = tt
+  events_each size (p ∷ ps) h c held rs =
+      step_keeps p.0 (λ q. Each P q.events) (λ r qs. tt) (λ e q g. (h.0, g)) size (part_of size ps) (λ d hs qs. events_each size ps h.1 d hs qs) p.1 c held rs
 
   each_first : (xs ys : List (ℕ × Event)) → Each P (xs ++ ys) → Each P xs
   each_first [] ys h = tt
@@ -150,6 +150,31 @@ module _ (size : Tree → ℕ) where
       go true e ih = ih _ _ (next_piece p c q rs T h e)
       go false e ih = record { chunk = c; held = h.held; unread = q ∷ rs; is = λ qs. h.is qs ∙ ap (adds p.events) (stays_there c p.ran_out p.rest q e rs p.left h.held qs); prompts = h.prompts }
 
+  -- one turn of the reading, at the i-th request
+  module _ (p : Piece) (c : ℕ) (rs : List Request) (i : ℕ) where
+    pub turned : (q : Request) → i < length rs → q ≡ get_or rs i q → resumes p.ran_out (fit p.rest q) ≡ true →
+        pieces_from size p c (drop i rs) ≡ pieces_from size (telling p.events (piece_of size (chunk_after q c) p.left [])) (chunk_after q c) (drop (suc i) rs)
+    unfolding pieces_from
+    turned q l e f =
+        ap (pieces_from size p c) (drop-cons rs i q l ∙ ap (λ x. x ∷ drop (suc i) rs) (sym e))
+        ∙ ap (λ (b : Bool). elim b as (λ y. Piece) [ true ↦ pieces_from size (telling p.events (piece_of size (chunk_after q c) p.left [])) (chunk_after q c) (drop (suc i) rs) | false ↦ p ]) f
+
+    pub stays_at : (q : Request) → i < length rs → q ≡ get_or rs i q → resumes p.ran_out (fit p.rest q) ≡ false → pieces_from size p c (drop i rs) ≡ p
+    unfolding pieces_from
+    stays_at q l e f =
+        ap (pieces_from size p c) (drop-cons rs i q l ∙ ap (λ x. x ∷ drop (suc i) rs) (sym e))
+        ∙ ap (λ (b : Bool). elim b as (λ y. Piece) [ true ↦ pieces_from size (telling p.events (piece_of size (chunk_after q c) p.left [])) (chunk_after q c) (drop (suc i) rs) | false ↦ p ]) f
+
+    pub is_done : length rs ≤ i → pieces_from size p c (drop i rs) ≡ p
+    unfolding pieces_from
+    is_done l = ap (pieces_from size p c) (past i rs l)
+      where
+        past : (n : ℕ) (xs : List Request) → length xs ≤ n → drop n xs ≡ []
+        past zero [] k = refl
+        past zero (x ∷ xs) k = absurd (omega (arith, k))
+        past (suc n) [] k = refl
+        past (suc n) (x ∷ xs) k = past n xs (omega (arith, k))
+
   -- the pieces of some stops, as they come to the part of these and of further stops
   pieces_come : (ps : Stops) (c : ℕ) (rs : List Request) → Comes (pieces_from size (piece_of size c ps []) c rs) (λ qs. seen (part_of size (ps ++ qs) c [] rs))
   pieces_come ps c rs =
@@ -175,8 +200,8 @@ module _ (size : Tree → ℕ) where
         let g : seen part ≡ adds p.events (record { events = []; rest = p.rest }) = e ∙ ap (adds p.events) f in
         record { events = sym (ap (λ (x : Seen). x.events) g ∙ append-nil p.events); rest = sym (ap (λ (x : Seen). x.rest) g) }
 
-    rests : (qs : Stops) → all ≡ ps ++ qs → p.ran_out ≡ false → IsWhole part p.events p.rest
-    rests qs e out = whole_of _ (told_with qs e) (ap (λ b. behind b p.rest come.chunk come.held come.unread qs) out)
+    at_rest : (qs : Stops) → all ≡ ps ++ qs → p.ran_out ≡ false → IsWhole part p.events p.rest
+    at_rest qs e out = whole_of _ (told_with qs e) (ap (λ b. behind b p.rest come.chunk come.held come.unread qs) out)
 
     -- there is no further stop
     pub whole : ps ≡ all → IsWhole part p.events p.rest
@@ -186,7 +211,7 @@ module _ (size : Tree → ℕ) where
         alone = sym e ∙ sym (append-nil ps)
 
         go : (b : Bool) → p.ran_out ≡ b → IsWhole part p.events p.rest
-        go false out = rests [] alone out
+        go false out = at_rest [] alone out
         go true out =
             whole_of _ (told_with [] alone)
             (ap (λ b. behind b p.rest come.chunk come.held come.unread []) out
@@ -204,7 +229,7 @@ module _ (size : Tree → ℕ) where
         }
 
     pub whole_at_rest : (n : ℕ) → IsBegun n ps all → p.ran_out ≡ false → IsWhole part p.events p.rest
-    whole_at_rest n b out = rests b.further b.are out
+    whole_at_rest n b out = at_rest b.further b.are out
 
     pub in_time : (n : ℕ) → All (λ s. s.0 ≤ n) ps → All (λ e. e.0 ≤ n) p.events
     in_time n h =

@@ -133,7 +133,7 @@ impl Query {
             left,
             ..
         } = read_piece(alloc, List::new(alloc), chunk, left)?;
-        let events = told(alloc, events)?;
+        let given = told(alloc, events)?;
         let query = Query {
             ask,
             requests,
@@ -141,7 +141,7 @@ impl Query {
             rest,
             run: Run { found, left },
         };
-        let outcome = query.settle(settings.destroys, events)?;
+        let outcome = query.settle(settings.destroys, given)?;
         Ok(outcome)
     }
 }
@@ -175,7 +175,7 @@ pub(crate) fn begin(
         left,
         ..
     } = read_piece(alloc, List::new(alloc), chunk, left)?;
-    let events = told(alloc, events)?;
+    let given = told(alloc, events)?;
     let query = Query {
         ask,
         requests: List::new(alloc),
@@ -183,6 +183,6 @@ pub(crate) fn begin(
         rest,
         run: Run { found, left },
     };
-    let outcome = query.settle(settings.destroys, events)?;
+    let outcome = query.settle(settings.destroys, given)?;
     Ok(outcome)
 }
