@@ -1,0 +1,47 @@
+-- Copies from a number on.
+use Rattle.std.proofs.Common.{◌≡◌, ℕ, zero, suc, ◌+◌, ◌≤◌, List, [], ◌∷◌, ◌++◌, refl, ap, sym, ◌∙◌, arith}
+use Rattle.term_core.specs.Tree.{Tree}
+use Rattle.term_core.specs.Variables.{occurrences, above_all, renamed, first_free}
+use Rattle.store.proofs.Terms.{map_variables-closed}
+use Rattle.builtin_table.specs.Solutions.{copies, after_copies}
+
+-- one copy more, behind the others
+pub copies_more : (v : ℕ) (ts : List Tree) (t : Tree) → copies v (ts ++ t ∷ []) ≡ copies v ts ++ renamed (after_copies v ts) t ∷ []
+copies_more v [] t = refl
+copies_more v (u ∷ ts) t = ap (λ us. renamed v u ∷ us) (copies_more (v + first_free u) ts t)
+
+pub after_more : (v : ℕ) (ts : List Tree) (t : Tree) → after_copies v (ts ++ t ∷ []) ≡ after_copies v ts + first_free t
+after_more v [] t = refl
+after_more v (u ∷ ts) t = after_more (v + first_free u) ts t
+
+-- how far they reach doesn't depend on where they begin
+pub after_from : (v : ℕ) (ts : List Tree) → after_copies v ts ≡ v + after_copies 0 ts
+after_from v [] = omega arith
+after_from v (t ∷ ts) = omega (arith, after_from (v + first_free t) ts, after_from (first_free t) ts)
+
+-- ---- without variables
+
+none_above : (ns : List ℕ) → above_all ns ≡ 0 → ns ≡ []
+none_above [] e = refl
+none_above (n ∷ ns) e = absurd (omega arith)
+
+same_anywhere : (v : ℕ) (t : Tree) → first_free t ≡ 0 → renamed v t ≡ renamed 0 t
+same_anywhere v t e =
+    let none = none_above (occurrences t) e in
+    map_variables-closed (λ n. n + v) t none ∙ sym (map_variables-closed (λ n. n + 0) t none)
+
+none_after : (t : Tree) (ts : List Tree) → after_copies 0 (t ∷ ts) ≡ 0 → (first_free t ≡ 0) × (after_copies 0 ts ≡ 0)
+none_after t ts e = (omega (arith, e, after_from (first_free t) ts), omega (arith, e, after_from (first_free t) ts))
+
+-- such copies are the same wherever they begin, and take no number
+pub copies_anywhere : (v : ℕ) (ts : List Tree) → after_copies 0 ts ≡ 0 → copies 0 ts ≡ copies v ts
+copies_anywhere v [] e = refl
+copies_anywhere v (t ∷ ts) e =
+    let none = none_after t ts e in
+    let there = copies_anywhere (v + first_free t) ts none.1 in
+    let here = copies_anywhere (0 + first_free t) ts none.1 in
+    let one = same_anywhere v t none.0 in
+    (λ i. sym one i ∷ (sym here ∙ there) i)
+
+pub after_none : (v : ℕ) (ts : List Tree) → after_copies 0 ts ≡ 0 → v ≡ after_copies v ts
+after_none v ts e = omega (arith, e, after_from v ts)

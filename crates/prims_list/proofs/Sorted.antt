@@ -1,0 +1,25 @@
+-- The primitives on lists: the results' pairs each begin with one of the arguments.
+use Rattle.std.proofs.Common.{◌≡◌, List, [], ◌∷◌, Result, Ok, Err}
+use Rattle.std.specs.List.{Contains}
+use Rattle.term_core.specs.Tree.{Tree}
+use Rattle.builtin_table.specs.Sorting.{msort_made, sort_made, keysort_made}
+use Rattle.builtin_table.specs.Primitives.{skip_list}
+use Rattle.tree_offers.proofs.Over.{Over, ball_over, one_over, no_pair, pair_before, unifies_over}
+
+module _ {ts : List Tree} where
+  -- ---- lists
+
+  pub msort_over : (s : Tree) (r : Result (List Tree) Tree) → Contains ts s → Over ts (msort_made s r)
+  msort_over s (Ok us) c = unifies_over _ _ c
+  msort_over s (Err e) c = ball_over
+
+  pub sort_over : (s : Tree) (r : Result (List Tree) Tree) → Contains ts s → Over ts (sort_made s r)
+  sort_over s (Ok us) c = unifies_over _ _ c
+  sort_over s (Err e) c = ball_over
+
+  pub keysort_over : (s : Tree) (r : Result (List Tree) Tree) → Contains ts s → Over ts (keysort_made s r)
+  keysort_over s (Ok us) c = unifies_over _ _ c
+  keysort_over s (Err e) c = ball_over
+
+  pub skip_list_over : (l k t : Tree) → Contains ts k → Contains ts t → Over ts (skip_list l k t)
+  skip_list_over l k t c d = one_over _ 0 (pair_before k _ _ c (pair_before t _ _ d no_pair))
