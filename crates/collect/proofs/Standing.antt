@@ -7,8 +7,8 @@ use Rattle.builtin_table.specs.Primitives.{Offer}
 use Rattle.builtin_table.specs.Solutions.{Keyed, parts, groups, findall_offers, group_offer, group_offers}
 use Rattle.builtin_table.specs.Lists.{list_of}
 use Rattle.builtin_table.specs.Sorting.{sorted_set}
-use Rattle.tree_offers.specs.Results.{argument, for_arguments, place, placed, IsOver}
-use Rattle.tree_offers.proofs.Over.{at, pair_before, no_pair}
+use Rattle.tree_offers.specs.Results.{argument, for_arguments, place, placed, BeginsWith, IsOver}
+use Rattle.tree_offers.proofs.Over.{at, pair_before}
 use Rattle.collect.specs.declared.bag.BagKind.{BagKind}
 use Rattle.collect.specs.declared.bag.BagKind.TheVariants.{Findall, Bagof, Setof}
 use Rattle.collect.specs.Bags.{offers_by}
@@ -49,15 +49,15 @@ at_first = at first [] (second ∷ [])
 abbrev at_second : Contains both second
 at_second = at second (first ∷ []) []
 
-pairs_over : (x : Tree) (g : List Keyed) → All (λ (p : Tree × Tree). Contains both p.0) (map (λ (a : Keyed). (first, (parts a.1).0)) g ++ (second, x) ∷ [])
-pairs_over x [] = pair_before {both} second x [] at_second no_pair
-pairs_over x (a ∷ g) = pair_before {both} first (parts a.1).0 _ at_first (pairs_over x g)
+pairs_over : (x : Tree) (g : List Keyed) → All (BeginsWith both) (map (λ (a : Keyed). (first, (parts a.1).0)) g ++ (second, x) ∷ [])
+pairs_over x [] = pair_before both second x [] at_second (All-nil (BeginsWith both))
+pairs_over x (a ∷ g) = pair_before both first (parts a.1).0 _ at_first (pairs_over x g)
 
 groups_over : (f : List Tree → List Tree) (gs : List (List Keyed)) → All (IsOver both) (map (group_offer f first second) gs)
 groups_over f [] = All-nil (IsOver both)
 groups_over f (g ∷ gs) = All-cons (IsOver both) (group_offer f first second g) _ (pairs_over _ g) (groups_over f gs)
 
 pub offers_over : (k : BagKind) (ss : List Tree) → All (IsOver both) (offers_by k first second ss)
-offers_over Findall ss = All-cons (IsOver both) _ [] (pair_before {both} second (list_of ss) [] at_second no_pair) (All-nil (IsOver both))
+offers_over Findall ss = All-cons (IsOver both) _ [] (pair_before both second (list_of ss) [] at_second (All-nil (BeginsWith both))) (All-nil (IsOver both))
 offers_over (Bagof n) ss = groups_over (λ ts. ts) (groups ss)
 offers_over (Setof n) ss = groups_over sorted_set (groups ss)

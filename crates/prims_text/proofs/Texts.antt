@@ -1,6 +1,7 @@
 -- The primitives on texts: the results' pairs each begin with one of the arguments.
 use Rattle.std.proofs.Common.{◌≡◌, ℕ, ℤ, Bool, true, false, List, [], ◌∷◌, map, Option, Some, None, Result, Ok, Err, refl, sym, subst}
 use Rattle.std.specs.List.{All, Contains}
+use Rattle.std.proofs.lemmas.List.Elements.{All-nil}
 use Rattle.std.specs.Cmp.Lexicographic.{bytes_decides}
 use Rattle.std.proofs.lemmas.Bool.{or_cases}
 use Rattle.term_core.specs.Tree.{Tree, variable, integer, atom, compound}
@@ -8,8 +9,8 @@ use Rattle.builtin_table.specs.declared.spelling.Spelling.{Spelling}
 use Rattle.builtin_table.specs.declared.spelling.Spelling.TheVariants.{Characters, Codes}
 use Rattle.builtin_table.specs.Texts.{PartTerms, length_found, atom_length, character_by_code, code_of_character, char_code, atom_ball, atom_joined, atom_made, atom_spelled, split, splits_from, concat_found, atom_concat, part_at, parts_at, parts_from, sub_atom}
 use Rattle.builtin_table.specs.Numbers.{number_ball, number_joined, number_made, number_text, number_spelled, atom_of_number, atom_number}
-use Rattle.tree_offers.specs.Results.{IsOver}
-use Rattle.tree_offers.proofs.Over.{Over, ball_over, fails_over, one_over, no_pair, pair_before, unifies_over, chosen, option_over, each_over, all_over}
+use Rattle.tree_offers.specs.Results.{BeginsWith, IsOver}
+use Rattle.tree_offers.proofs.Over.{Over, ball_over, fails_over, one_over, pair_before, unifies_over, chosen, option_over, each_over, all_over}
 
 module _ {ts : List Tree} where
   -- ---- texts
@@ -60,21 +61,21 @@ module _ {ts : List Tree} where
   atom_spelled_over k (compound f us) l c d = atom_ball_over k _
 
   pub splits_over : (a b : Tree) (cs : List ℕ) (k : ℕ) → Contains ts a → Contains ts b → All (IsOver ts) (splits_from a b cs k)
-  splits_over a b cs k c d = each_over (split a b cs) _ (λ n. pair_before a _ _ c (pair_before b _ _ d no_pair))
+  splits_over a b cs k c d = each_over ts (split a b cs) _ (λ n. pair_before ts a _ _ c (pair_before ts b _ _ d (All-nil (BeginsWith ts))))
 
   pub concat_found_over : (a b e : Tree) → Contains ts a → Contains ts b → Contains ts e → Over ts (concat_found a b e)
   concat_found_over a b e c d h = chosen _ (record { over = splits_over a b _ 0 c d }) (unifies_over _ _ h)
 
   pub atom_concat_over : (a b e : Tree) → Contains ts a → Contains ts b → Contains ts e → Over ts (atom_concat a b e)
-  atom_concat_over a b e c d h = chosen _ ball_over (option_over _ _ _ (λ t. ball_over) (concat_found_over a b e c d h))
+  atom_concat_over a b e c d h = chosen _ ball_over ts (option_over _ _ _ (λ t. ball_over) (concat_found_over a b e c d h))
 
   pub part_over : (us : PartTerms) (cs : List ℕ) (start len : ℕ) → Contains ts us.before → Contains ts us.len → Contains ts us.after → Contains ts us.part → IsOver ts (part_at us cs start len)
   part_over us cs start len b l a p =
-      pair_before us.before _ _ b (pair_before us.len _ _ l (pair_before us.after _ _ a (pair_before us.part _ _ p no_pair)))
+      pair_before ts us.before _ _ b (pair_before ts us.len _ _ l (pair_before ts us.after _ _ a (pair_before ts us.part _ _ p (All-nil (BeginsWith ts)))))
 
   pub parts_over : (us : PartTerms) (cs : List ℕ) (start : ℕ) → Contains ts us.before → Contains ts us.len → Contains ts us.after → Contains ts us.part → All (IsOver ts) (parts_from us cs start)
   parts_over us cs start b l a p =
-      all_over (λ k. parts_at us cs k 0) _ (λ k. each_over (part_at us cs k) _ (λ n. part_over us cs k n b l a p))
+      all_over ts (λ k. parts_at us cs k 0) _ (λ k. each_over ts (part_at us cs k) _ (λ n. part_over us cs k n b l a p))
 
   pub sub_atom_over : (t : Tree) (us : PartTerms) → Contains ts us.before → Contains ts us.len → Contains ts us.after → Contains ts us.part → Over ts (sub_atom t us)
   sub_atom_over (variable v) us b l a p = ball_over

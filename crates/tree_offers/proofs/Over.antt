@@ -4,12 +4,22 @@ use Rattle.std.specs.List.{All, Contains, flat_map}
 use Rattle.std.specs.Cmp.Lexicographic.{bytes_decides}
 use Rattle.std.proofs.lemmas.List.Elements.{All-cons, All-nil, All-append, All-map}
 use Rattle.term_core.specs.Tree.{Tree}
-use Rattle.builtin_table.specs.Outcomes.{Outcome, Offers, Ball, Offer, offer, unifies, fails, tested}
-use Rattle.tree_offers.specs.Results.{IsOver}
+use Rattle.builtin_table.specs.Outcomes.{Outcome, Ball, Offer, offer, unifies, fails, tested}
+use Rattle.tree_offers.specs.Results.{BeginsWith, IsOver}
 use Rattle.tree_offers.specs.Outcomes.{AreOver}
 
 pub record Over (ts : List Tree) (o : Outcome) : Type 0 where
   pub over : AreOver ts o
+
+pub pair_before : (ts : List Tree) (t u : Tree) (ps : List (Tree × Tree)) → Contains ts t → All (BeginsWith ts) ps → All (BeginsWith ts) ((t, u) ∷ ps)
+pair_before ts t u ps c a = All-cons (BeginsWith ts) (t, u) ps c a
+
+pub each_over : {A : Type 0} (ts : List Tree) (f : A → Offer) (xs : List A) → ((x : A) → IsOver ts (f x)) → All (IsOver ts) (map f xs)
+each_over ts f xs h = All-map (IsOver ts) f xs (λ i d l. h _)
+
+pub all_over : {A : Type 0} (ts : List Tree) (f : A → List Offer) (xs : List A) → ((x : A) → All (IsOver ts) (f x)) → All (IsOver ts) (flat_map f xs)
+all_over ts f [] h = All-nil (IsOver ts)
+all_over ts f (x ∷ xs) h = All-append (IsOver ts) (f x) (flat_map f xs) (h x) (all_over ts f xs h)
 
 module _ {ts : List Tree} where
   pub ball_over : {b : Tree} → Over ts (Ball b)
@@ -18,20 +28,14 @@ module _ {ts : List Tree} where
   pub fails_over : Over ts fails
   fails_over = record { over = All-nil (IsOver ts) }
 
-  pub one_over : (ps : List (Tree × Tree)) (n : ℕ) → All (λ p. Contains ts p.0) ps → Over ts (offer ps n)
+  pub one_over : (ps : List (Tree × Tree)) (n : ℕ) → All (BeginsWith ts) ps → Over ts (offer ps n)
   one_over ps n a = record { over = All-cons (IsOver ts) (record { pairs = ps; fresh = n }) [] a (All-nil (IsOver ts)) }
 
-  pub no_pair : All (λ (p : Tree × Tree). Contains ts p.0) []
-  no_pair = All-nil (λ (p : Tree × Tree). Contains ts p.0)
-
-  pub pair_before : (t u : Tree) (ps : List (Tree × Tree)) → Contains ts t → All (λ p. Contains ts p.0) ps → All (λ p. Contains ts p.0) ((t, u) ∷ ps)
-  pair_before t u ps c a = All-cons (λ (p : Tree × Tree). Contains ts p.0) (t, u) ps c a
-
   pub unifies_over : (t u : Tree) → Contains ts t → Over ts (unifies t u)
-  unifies_over t u c = one_over ((t, u) ∷ []) 0 (pair_before t u [] c no_pair)
+  unifies_over t u c = one_over ((t, u) ∷ []) 0 (pair_before ts t u [] c (All-nil (BeginsWith ts)))
 
   pub tested_over : (b : Bool) → Over ts (tested b)
-  tested_over true = one_over [] 0 no_pair
+  tested_over true = one_over [] 0 (All-nil (BeginsWith ts))
   tested_over false = fails_over
 
   pub chosen : (b : Bool) {x y : Outcome} → Over ts x → Over ts y → Over ts (if b then x else y)
@@ -41,13 +45,6 @@ module _ {ts : List Tree} where
   pub option_over : {A : Type 0} (o : Option A) (f : A → Outcome) (y : Outcome) → ((a : A) → Over ts (f a)) → Over ts y → Over ts (elim o [ Some a ↦ f a | None ↦ y ])
   option_over (Some a) f y h k = h a
   option_over None f y h k = k
-
-  pub each_over : {A : Type 0} (f : A → Offer) (xs : List A) → ((x : A) → IsOver ts (f x)) → All (IsOver ts) (map f xs)
-  each_over f xs h = All-map (IsOver ts) f xs (λ i d l. h _)
-
-  pub all_over : {A : Type 0} (f : A → List Offer) (xs : List A) → ((x : A) → All (IsOver ts) (f x)) → All (IsOver ts) (flat_map f xs)
-  all_over f [] h = All-nil (IsOver ts)
-  all_over f (x ∷ xs) h = All-append (IsOver ts) (f x) (flat_map f xs) (h x) (all_over f xs h)
 
 -- the term at this place is one of them
 pub at : (t : Tree) (us vs : List Tree) → Contains (us ++ t ∷ vs) t

@@ -1,5 +1,5 @@
 -- What a primitive gives, as the definition has it.
-use Rattle.std.specs.Prelude.{◌≡◌, ℕ, List, map, ⊤, ⊥}
+use Rattle.std.specs.Prelude.{◌≡◌, ℕ, List, map, ⊤}
 use Rattle.std.specs.List.{All}
 use Rattle.term_core.specs.Tree.{Tree}
 use Rattle.builtin_table.specs.Primitives.{Outcome, Offers, Ball, Unknown, primitive}

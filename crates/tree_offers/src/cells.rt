@@ -1,8 +1,10 @@
 // Cells for the pairs of a result.
-ghost use Rattle.std.specs.Prelude.{◌≡◌, ◌<◌, ◌^◌, length, map, IfOk};
+ghost use Rattle.std.specs.Prelude.{◌≡◌, ◌<◌, ◌^◌, length, map, IfOk, position as first_position};
+ghost use Rattle.std.specs.Ordering.{eq_by_cmp};
+ghost use Rattle.term_core.specs.Order.{tree_cmp};
 ghost use Rattle.std.specs.List.{All, Contains};
 ghost use Rattle.store.specs.Cells.{Keeps};
-ghost use Rattle.tree_offers.specs.Results.{Offered, place as place_in};
+ghost use Rattle.tree_offers.specs.Results.{BeginsWith, Offered, pair_placed, place as place_in};
 
 use std::alloc::Global;
 use store::{Offer, Store};
@@ -15,9 +17,9 @@ pub(crate) fn offered(
     store: &mut Store,
     pairs: &[(Term, Term)],
 ) -> Result<Offer, Memory>
-    requires among { All (λ p. Contains terms.now p.0) pairs.now }
+    requires among { All (BeginsWith terms.now) pairs.now }
     requires few { length terms.now < 2 ^ 32 }
-    ensures offered { IfOk result (λ o. Offered store.old store.new (map (λ p. (place_in terms.now p.0, p.1)) pairs.now) o.pairs) }
+    ensures offered { IfOk result (λ o. Offered store.old store.new (map (pair_placed terms.now) pairs.now) o.pairs) }
     ensures keeps { Keeps store.old store.new }
 {
     let mut offered = List::new(alloc);
@@ -34,8 +36,15 @@ fn place(terms: &[Term], term: &Term) -> u32
     requires few { length terms.now < 2 ^ 32 }
     ensures { result ≡ place_in terms.now term.now }
 {
-    match terms.iter().position(|other| other == term) {
+    match position(terms, term) {
         Some(at) => at as u32,
         None => unreachable!(),
     }
+}
+
+// The first place of a term among these, where it is one of them.
+fn position(terms: &[Term], term: &Term) -> Option<usize>
+    ensures { result ≡ first_position (λ u. eq_by_cmp tree_cmp u term.now) terms.now }
+{
+    terms.iter().position(|other| other == term)
 }

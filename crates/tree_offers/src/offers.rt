@@ -1,8 +1,8 @@
 // The results that are left, with cells made for each when it is asked for.
-ghost use Rattle.std.specs.Prelude.{◌≡◌, ◌<◌, ◌^◌, [], map, length, IfOk, OnErr, MatchOption};
+ghost use Rattle.std.specs.Prelude.{◌≡◌, ◌<◌, ◌^◌, [], map, length, None, IfOk, OnOk, OnErr, MatchOption};
 ghost use Rattle.std.specs.List.{All};
 ghost use Rattle.store.specs.Cells.{Keeps};
-ghost use Rattle.tree_offers.specs.Results.{IsNext, IsOver, placed};
+ghost use Rattle.tree_offers.specs.Results.{IsNext, IsOver, placed, with_ahead};
 
 use crate::cells::offered;
 use std::alloc::Global;
@@ -63,9 +63,7 @@ impl Offers {
         ensures keeps { Keeps store.old store.new }
         ensures err { OnErr result (self.new ≡ self.old) }
     {
-        if self.ahead.is_none() {
-            self.ahead = self.later.next(self.alloc)?;
-        }
+        find_first(self.alloc, &mut self.ahead, &mut self.later)?;
         let Some(result) = &self.ahead else {
             return Ok(None);
         };
@@ -73,4 +71,19 @@ impl Offers {
         self.ahead = None;
         Ok(Some(offer))
     }
+}
+
+// Takes the first of the later results, where none is ahead of them.
+fn find_first(
+    alloc: Global,
+    ahead: &mut Option<prims_tree::Offer>,
+    later: &mut prims_tree::Offers,
+) -> Result<(), Memory>
+    ensures same { with_ahead ahead.new later.new ≡ with_ahead ahead.old later.old }
+    ensures none { OnOk result (ahead.new ≡ None → later.new ≡ []) }
+{
+    if ahead.is_none() {
+        *ahead = later.next(alloc)?;
+    }
+    Ok(())
 }
