@@ -1,6 +1,7 @@
 -- Copies from a number on.
-use Rattle.std.proofs.Common.{◌≡◌, ℕ, zero, suc, ◌+◌, ◌≤◌, List, [], ◌∷◌, ◌++◌, refl, ap, sym, ◌∙◌, arith}
-use Rattle.term_core.specs.Tree.{Tree}
+use Rattle.std.proofs.Common.{◌≡◌, ℕ, zero, suc, ◌+◌, ◌<◌, ◌≤◌, length, take, get_or, List, [], ◌∷◌, ◌++◌, refl, ap, sym, ◌∙◌, arith}
+use Rattle.std.proofs.lemmas.List.{take_more}
+use Rattle.term_core.specs.Tree.{Tree, greatest}
 use Rattle.term_core.specs.Variables.{occurrences, above_all, renamed, first_free}
 use Rattle.store.proofs.Terms.{map_variables-closed}
 use Rattle.builtin_table.specs.Solutions.{copies, after_copies}
@@ -45,3 +46,18 @@ copies_anywhere v (t ∷ ts) e =
 
 pub after_none : (v : ℕ) (ts : List Tree) → after_copies 0 ts ≡ 0 → v ≡ after_copies v ts
 after_none v ts e = omega (arith, e, after_from v ts)
+
+-- ---- numbers that fit
+
+pub greatest_le : (ns : List ℕ) → greatest ns ≤ above_all ns
+greatest_le [] = omega arith
+greatest_le (n ∷ ns) = omega (arith, greatest_le ns)
+
+-- one term more of those that are taken from the left
+pub after_taken : (v : ℕ) (ts : List Tree) (i : ℕ) (t : Tree) → i < length ts → t ≡ get_or ts i t → after_copies v (take (i + 1) ts) ≡ after_copies v (take i ts) + first_free t
+after_taken v ts i t l e =
+    ap (after_copies v) (take_more ts i t l ∙ ap (λ (u : Tree). take i ts ++ u ∷ []) (sym e)) ∙ after_more v (take i ts) t
+
+pub copies_taken : (v : ℕ) (ts : List Tree) (i : ℕ) (t : Tree) → i < length ts → t ≡ get_or ts i t → copies v (take (i + 1) ts) ≡ copies v (take i ts) ++ renamed (after_copies v (take i ts)) t ∷ []
+copies_taken v ts i t l e =
+    ap (copies v) (take_more ts i t l ∙ ap (λ (u : Tree). take i ts ++ u ∷ []) (sym e)) ∙ copies_more v (take i ts) t

@@ -6,7 +6,7 @@ ghost use Rattle.term_core.specs.Variables.{numbered};
 ghost use Rattle.builtin_table.specs.Solutions.{copies, after_copies};
 ghost use Rattle.store.specs.Cells.{IsCell, tree_of, Keeps};
 ghost use Rattle.tree_offers.specs.Results.{for_arguments, HasPlaces};
-ghost use Rattle.collect.specs.Bags.{offers_by, offers_of};
+ghost use Rattle.collect.specs.Bags.{offers_by};
 
 use crate::numbers::renumbered;
 use prims_tree::{Arrangement, findall_offers, group_offers};

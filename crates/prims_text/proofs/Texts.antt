@@ -1,18 +1,18 @@
 -- The primitives on texts: the results' pairs each begin with one of the arguments.
-use Rattle.std.proofs.Common.{◌≡◌, ℕ, ℤ, Bool, true, false, List, [], ◌∷◌, map, Option, Some, None, Result, Ok, Err, refl, sym, subst}
-use Rattle.std.specs.List.{All, Contains}
+use Rattle.std.proofs.Common.{◌≡◌, ℕ, suc, ◌-◌, pos, length, take, drop, ℤ, Bool, true, false, ◌||◌, List, [], ◌∷◌, map, Option, Some, None, Result, Ok, Err}
+use Rattle.std.specs.List.{All, Contains, range_with_len}
 use Rattle.std.proofs.lemmas.List.Elements.{All-nil}
-use Rattle.std.specs.Cmp.Lexicographic.{bytes_decides}
-use Rattle.std.proofs.lemmas.Bool.{or_cases}
+use Rattle.std.specs.Str.{chars}
 use Rattle.term_core.specs.Tree.{Tree, variable, integer, atom, compound}
 use Rattle.builtin_table.specs.declared.spelling.Spelling.{Spelling}
 use Rattle.builtin_table.specs.declared.spelling.Spelling.TheVariants.{Characters, Codes}
-use Rattle.builtin_table.specs.Texts.{PartTerms, length_found, atom_length, character_by_code, code_of_character, char_code, atom_ball, atom_joined, atom_made, atom_spelled, split, splits_from, concat_found, atom_concat, part_at, parts_at, parts_from, sub_atom}
+use Rattle.builtin_table.specs.Texts.{PartTerms, atom_of, length_found, atom_length, character_by_code, code_of_character, char_code, atom_ball, atom_joined, atom_made, atom_spelled, split, splits_from, characters_of, concatenation, concat_found, atom_concat, part_at, parts_at, parts_from, sub_atom}
 use Rattle.builtin_table.specs.Numbers.{number_ball, number_joined, number_made, number_text, number_spelled, atom_of_number, atom_number}
+use Rattle.builtin_table.specs.Outcomes.{Offers, is_variable}
 use Rattle.tree_offers.specs.Results.{BeginsWith, IsOver}
 use Rattle.tree_offers.proofs.Over.{Over, ball_over, fails_over, one_over, pair_before, unifies_over, chosen, option_over, each_over, all_over}
 
-module _ {ts : List Tree} where
+module _ (ts : List Tree) where
   -- ---- texts
 
   pub length_found_over : (n : Tree) (k : ℕ) → Contains ts n → Over ts (length_found n k)
@@ -61,26 +61,35 @@ module _ {ts : List Tree} where
   atom_spelled_over k (compound f us) l c d = atom_ball_over k _
 
   pub splits_over : (a b : Tree) (cs : List ℕ) (k : ℕ) → Contains ts a → Contains ts b → All (IsOver ts) (splits_from a b cs k)
-  splits_over a b cs k c d = each_over ts (split a b cs) _ (λ n. pair_before ts a _ _ c (pair_before ts b _ _ d (All-nil (BeginsWith ts))))
+  splits_over a b cs k c d =
+      each_over ts (split a b cs) (range_with_len k (suc (length cs) - k))
+      (λ n. pair_before ts a (atom_of (take n cs)) ((b, atom_of (drop n cs)) ∷ []) c (pair_before ts b (atom_of (drop n cs)) [] d (All-nil (BeginsWith ts))))
 
   pub concat_found_over : (a b e : Tree) → Contains ts a → Contains ts b → Contains ts e → Over ts (concat_found a b e)
-  concat_found_over a b e c d h = chosen _ (record { over = splits_over a b _ 0 c d }) (unifies_over _ _ h)
+  concat_found_over a b e c d h =
+      chosen (is_variable a || is_variable b) {x = Offers (splits_from a b (characters_of e) 0)} (record { over = splits_over a b (characters_of e) 0 c d }) (unifies_over e (concatenation a b) h)
 
   pub atom_concat_over : (a b e : Tree) → Contains ts a → Contains ts b → Contains ts e → Over ts (atom_concat a b e)
-  atom_concat_over a b e c d h = chosen _ ball_over ts (option_over _ _ _ (λ t. ball_over) (concat_found_over a b e c d h))
+  atom_concat_over a b e c d h = chosen _ ball_over (option_over _ _ _ (λ t. ball_over) (concat_found_over a b e c d h))
 
   pub part_over : (us : PartTerms) (cs : List ℕ) (start len : ℕ) → Contains ts us.before → Contains ts us.len → Contains ts us.after → Contains ts us.part → IsOver ts (part_at us cs start len)
   part_over us cs start len b l a p =
-      pair_before ts us.before _ _ b (pair_before ts us.len _ _ l (pair_before ts us.after _ _ a (pair_before ts us.part _ _ p (All-nil (BeginsWith ts)))))
+      let part : Tree × Tree = (us.part, atom_of (take len (drop start cs))) in
+      let after : Tree × Tree = (us.after, integer (pos (length cs - start - len))) in
+      let long : Tree × Tree = (us.len, integer (pos len)) in
+      pair_before ts us.before (integer (pos start)) (long ∷ after ∷ part ∷ []) b
+      (pair_before ts us.len long.1 (after ∷ part ∷ []) l
+      (pair_before ts us.after after.1 (part ∷ []) a (pair_before ts us.part part.1 [] p (All-nil (BeginsWith ts)))))
 
   pub parts_over : (us : PartTerms) (cs : List ℕ) (start : ℕ) → Contains ts us.before → Contains ts us.len → Contains ts us.after → Contains ts us.part → All (IsOver ts) (parts_from us cs start)
   parts_over us cs start b l a p =
-      all_over ts (λ k. parts_at us cs k 0) _ (λ k. each_over ts (part_at us cs k) _ (λ n. part_over us cs k n b l a p))
+      all_over ts (λ k. parts_at us cs k 0) (range_with_len start (suc (length cs) - start))
+      (λ k. each_over ts (part_at us cs k) (range_with_len 0 (suc (length cs) - k - 0)) (λ n. part_over us cs k n b l a p))
 
   pub sub_atom_over : (t : Tree) (us : PartTerms) → Contains ts us.before → Contains ts us.len → Contains ts us.after → Contains ts us.part → Over ts (sub_atom t us)
   sub_atom_over (variable v) us b l a p = ball_over
   sub_atom_over (integer z) us b l a p = ball_over
-  sub_atom_over (atom f) us b l a p = record { over = parts_over us _ 0 b l a p }
+  sub_atom_over (atom f) us b l a p = record { over = parts_over us (chars f) 0 b l a p }
   sub_atom_over (compound f vs) us b l a p = ball_over
 
   -- ---- numbers
