@@ -18,7 +18,11 @@ after_more v (u ∷ ts) t = after_more (v + first_free u) ts t
 -- how far they reach doesn't depend on where they begin
 pub after_from : (v : ℕ) (ts : List Tree) → after_copies v ts ≡ v + after_copies 0 ts
 after_from v [] = omega arith
-after_from v (t ∷ ts) = omega (arith, after_from (v + first_free t) ts, after_from (first_free t) ts)
+after_from v (t ∷ ts) =
+    let here : after_copies (v + first_free t) ts ≡ v + first_free t + after_copies 0 ts = after_from (v + first_free t) ts in
+    let there : after_copies (first_free t) ts ≡ first_free t + after_copies 0 ts = after_from (first_free t) ts in
+    let sum : v + first_free t + after_copies 0 ts ≡ v + (first_free t + after_copies 0 ts) = omega arith in
+    here ∙ sum ∙ ap (λ (n : ℕ). v + n) (sym there)
 
 -- ---- without variables
 
@@ -32,7 +36,10 @@ same_anywhere v t e =
     map_variables-closed (λ n. n + v) t none ∙ sym (map_variables-closed (λ n. n + 0) t none)
 
 none_after : (t : Tree) (ts : List Tree) → after_copies 0 (t ∷ ts) ≡ 0 → (first_free t ≡ 0) × (after_copies 0 ts ≡ 0)
-none_after t ts e = (omega (arith, e, after_from (first_free t) ts), omega (arith, e, after_from (first_free t) ts))
+none_after t ts e =
+    let there : after_copies (first_free t) ts ≡ first_free t + after_copies 0 ts = after_from (first_free t) ts in
+    let none : first_free t + after_copies 0 ts ≡ 0 = sym there ∙ e in
+    (omega (arith, none), omega (arith, none))
 
 -- such copies are the same wherever they begin, and take no number
 pub copies_anywhere : (v : ℕ) (ts : List Tree) → after_copies 0 ts ≡ 0 → copies 0 ts ≡ copies v ts

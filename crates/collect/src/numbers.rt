@@ -8,6 +8,7 @@ use store::{Seen, Store};
 use term_core::{Memory, Term};
 
 // Copies of these terms, whose variables take the store's next numbers, one term after the other.
+#[tactic(auto, using(crate::proofs::Copying::copies_anywhere, crate::proofs::Copying::after_none, crate::proofs::Copying::after_from))]
 pub(crate) fn renumbered(
     alloc: Global,
     store: &mut Store,
@@ -19,10 +20,12 @@ pub(crate) fn renumbered(
 {
     let count = variable_count(terms)?;
     if count == 0 {
-        return copies(alloc, terms, 0);
+        let same = copies(alloc, terms, 0)?;
+        return Ok(same);
     }
     let first = reserved(alloc, store, count)?;
-    copies(alloc, terms, first)
+    let renamed = copies(alloc, terms, first)?;
+    Ok(renamed)
 }
 
 // How many numbers the copies take.
