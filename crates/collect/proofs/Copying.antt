@@ -20,8 +20,8 @@ pub after_from : (v : ℕ) (ts : List Tree) → after_copies v ts ≡ v + after_
 after_from v [] = omega arith
 after_from v (t ∷ ts) =
     let here : after_copies (v + first_free t) ts ≡ v + first_free t + after_copies 0 ts = after_from (v + first_free t) ts in
-    let there : after_copies (first_free t) ts ≡ first_free t + after_copies 0 ts = after_from (first_free t) ts in
-    let sum : v + first_free t + after_copies 0 ts ≡ v + (first_free t + after_copies 0 ts) = omega arith in
+    let there : after_copies (0 + first_free t) ts ≡ 0 + first_free t + after_copies 0 ts = after_from (0 + first_free t) ts in
+    let sum : v + first_free t + after_copies 0 ts ≡ v + (0 + first_free t + after_copies 0 ts) = omega arith in
     here ∙ sum ∙ ap (λ (n : ℕ). v + n) (sym there)
 
 -- ---- without variables
@@ -37,8 +37,8 @@ same_anywhere v t e =
 
 none_after : (t : Tree) (ts : List Tree) → after_copies 0 (t ∷ ts) ≡ 0 → (first_free t ≡ 0) × (after_copies 0 ts ≡ 0)
 none_after t ts e =
-    let there : after_copies (first_free t) ts ≡ first_free t + after_copies 0 ts = after_from (first_free t) ts in
-    let none : first_free t + after_copies 0 ts ≡ 0 = sym there ∙ e in
+    let there : after_copies (0 + first_free t) ts ≡ 0 + first_free t + after_copies 0 ts = after_from (0 + first_free t) ts in
+    let none : 0 + first_free t + after_copies 0 ts ≡ 0 = sym there ∙ e in
     (omega (arith, none), omega (arith, none))
 
 -- such copies are the same wherever they begin, and take no number
