@@ -1,4 +1,5 @@
 pub mod Cells
+pub mod Grouping
 pub mod Joined
 pub mod Keys
 pub mod NewVariables

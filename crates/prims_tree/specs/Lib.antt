@@ -1,4 +1,5 @@
 pub mod Cells
+pub mod Groups
 pub mod Keys
 pub mod Outcomes
 pub mod Values

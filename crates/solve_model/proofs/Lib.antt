@@ -3,7 +3,6 @@ pub mod Choosing
 pub mod ClashLemmas
 pub mod Dropped
 pub mod Gathering
-pub mod Grouping
 pub mod MatchLemmas
 pub mod Prompts
 pub mod Relate

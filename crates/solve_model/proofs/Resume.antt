@@ -1,5 +1,5 @@
 -- What is left to do, one frame at a time.
-use Rattle.std.proofs.Common.{◌≡◌, ◌≢◌, ℕ, suc, Bool, true, false, ◌||◌, List, [], ◌∷◌, ◌++◌, map, reverse, length, ap, refl, sym, ◌∙◌, ◌<◌, ◌≤◌, append_assoc, append-nil, arith, ◌+◌}
+use Rattle.std.proofs.Common.{◌≡◌, ◌≢◌, ℕ, suc, Bool, true, false, ◌||◌, List, [], ◌∷◌, ◌++◌, map, reverse, ap, refl, sym, ◌∙◌, ◌<◌, ◌≤◌, append_assoc, append-nil, arith, ◌+◌}
 use Rattle.std.proofs.lemmas.List.{reverse-append, map-append}
 use Rattle.term_core.specs.declared.pi.Pi.{Pi}
 use Rattle.term_core.specs.Tree.{Tree}
@@ -178,10 +178,6 @@ over w t fs ms r d = ap (λ (gs : List Frame). traced_after t ms (resumed w gs r
 pub popped : (w : World) (t : Tree) (fs gs : List Frame) (f : Frame) (ms : List (ℕ × TraceMark)) (e : End) (u : Used) (r : Ran) → fs ≡ gs ++ f ∷ [] → r ≡ resumed w gs (at_frame w f e u) → traced_after t ms r ≡ traced_after t ms (resumed w fs (ends e u))
 popped w t fs gs f ms e u r d h =
     ap (traced_after t ms) (h ∙ sym (resumed_push w gs fs f (ends e u) d ∙ ap (resumed w gs) (through_end w f e u)))
-
-pub nothing_kept : {A : Type 0} (xs : List A) (n : ℕ) → n ≡ 0 → n ≡ length xs → xs ≡ []
-nothing_kept [] n e h = refl
-nothing_kept (x ∷ xs) n e h = absurd (omega (arith, e, h))
 
 -- ---- the query
 

@@ -14,9 +14,9 @@ use crate::frames::push;
 use crate::items::catcher;
 use crate::ready::{Ready, make_ready, not_list};
 use crate::search::{Branch, End, Frame, Goal, Item, Now, Place, Scope, Search, Stack};
-use crate::solutions::{Arrangement, Collection, offers, witness};
+use crate::solutions::{Collection, offers, witness};
 use crate::work::Work;
-use prims_tree::may_be_list;
+use prims_tree::{Arrangement, may_be_list};
 use std::alloc::Global;
 use term_core::{Memory, Term};
 
