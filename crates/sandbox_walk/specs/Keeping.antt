@@ -108,6 +108,10 @@ keeps_of c i =
 abbrev pub clause_keeps : Clause → Bool
 clause_keeps c = elim (indicator_of c.head) [ None ↦ true | Some i ↦ keeps_of c i ]
 
+-- a client's clause
+abbrev pub client_keeps : Clause → Bool
+client_keeps c = c.own && clause_keeps c
+
 -- a goal that reaches the helper doesn't pass
 abbrev pub is_closed : List Clause → Pi → Bool
 is_closed p i = not (list_all opens (in_predicate standard p i))

@@ -1,16 +1,17 @@
 -- Soundness of the sandbox.
 use Rattle.std.specs.Prelude.{◌≡◌, ℕ, Bool, true, false, List, length, Option, Some, None}
+use Rattle.std.specs.List.{list_all}
 use Rattle.term_core.specs.declared.pi.Pi.{Pi}
 use Rattle.term_core.specs.Tree.{Tree}
 use Rattle.builtin_table.specs.declared.row.Class.{Class}
 use Rattle.builtin_table.specs.declared.row.Class.TheVariants.{Control, Safe, Meta, Library, Outside as OutsideClass}
 use Rattle.builtin_table.specs.declared.row.Row.{Row}
-use Rattle.builtin_table.specs.Table.{standard, row_of, reserved_of}
+use Rattle.builtin_table.specs.Table.{standard, row_of}
 use Rattle.program.specs.Clauses.{Clause}
-use Rattle.program.specs.Source.{first_fault, clauses_in, program_of}
+use Rattle.program.specs.Source.{program_of}
 use Rattle.solve_model.specs.Run.{World, Outside, query}
 use Rattle.sandbox_walk.specs.Computed.{verdict}
-use Rattle.sandbox_walk.specs.Keeping.{KeepsSandbox}
+use Rattle.sandbox_walk.specs.Keeping.{client_keeps, KeepsSandbox}
 use Rattle.sandbox_walk.specs.Passes.{Passes}
 
 -- a class of which a passed goal may take primitives
@@ -47,7 +48,7 @@ StaysInside p g = (w : World) (t : Tree) (i : Pi) → w.clauses ≡ p → (query
 abbrev pub SafeGoalsStayInside : Type 0
 SafeGoalsStayInside = (p : List Clause) (g : Tree) → KeepsSandbox p → verdict standard p g ≡ None → StaysInside p g
 
--- A program that is loaded over a library keeps to the sandbox where the library does: no client's clause is of a reserved predicate, or of one whose name begins with `$`.
+-- A program that is loaded over a library keeps to the sandbox where the library does, and where no client's clause is of a reserved predicate or of one whose name begins with `$`.
 abbrev pub LoadedProgramsKeepTheSandbox : Type 0
 LoadedProgramsKeepTheSandbox =
-    (library : List Clause) (ts : List Tree) → KeepsSandbox library → first_fault (reserved_of standard) 1 ts ≡ None → KeepsSandbox (program_of library (clauses_in true ts))
+    (library own : List Clause) → KeepsSandbox library → list_all client_keeps own ≡ true → KeepsSandbox (program_of library own)

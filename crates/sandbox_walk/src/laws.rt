@@ -13,7 +13,8 @@ pub fn safe_goals_stay_inside()
     ensures { SafeGoalsStayInside }
 {}
 
-/// A program of a client's clauses that are accepted keeps to the sandbox, where the library does over which it is loaded.
+/// A program keeps to the sandbox where the library over which it is loaded does, and no clause of the client is of a reserved
+/// predicate or of one whose name begins with `$`.
 pub fn loaded_programs_keep_the_sandbox()
     ensures { LoadedProgramsKeepTheSandbox }
 {}
