@@ -16,7 +16,7 @@ offered-requires-clause-among c =
     let ts = c.self.inside.terms.items in
     let kept : All (IsOver ts) (with_ahead c.find_first.new.ahead c.find_first.new.later) = subst (All (IsOver ts)) (sym c.find_first.ensures.same) c.self.invariant.0 in
     let all : All (IsOver ts) (offer_of c.in-Some.result ∷ c.find_first.new.later) =
-        subst (λ (a : Option found.Offer). All (IsOver ts) (with_ahead a c.find_first.new.later)) c.in-Some.is kept in
+    subst (λ (a : Option found.Offer). All (IsOver ts) (with_ahead a c.find_first.new.later)) c.in-Some.is kept in
     let first : All (BeginsWith ts) c.in-Some.result.pairs = All-head (IsOver ts) (offer_of c.in-Some.result) c.find_first.new.later all in
     let pairs : All (BeginsWith ts) c.as_slice.result.now = subst (All (BeginsWith ts)) (sym c.as_slice.ensures) first in
     subst (λ (us : List Tree). All (BeginsWith us) c.as_slice.result.now) (sym c.deref.ensures.value) pairs
@@ -30,5 +30,5 @@ invariant_of-self-2 c =
     let ts = c.self.inside.terms.items in
     let kept : All (IsOver ts) (with_ahead c.find_first.new.ahead c.find_first.new.later) = subst (All (IsOver ts)) (sym c.find_first.ensures.same) c.self.invariant.0 in
     let all : All (IsOver ts) (offer_of c.in-Some.result ∷ c.find_first.new.later) =
-        subst (λ (a : Option found.Offer). All (IsOver ts) (with_ahead a c.find_first.new.later)) c.in-Some.is kept in
+    subst (λ (a : Option found.Offer). All (IsOver ts) (with_ahead a c.find_first.new.later)) c.in-Some.is kept in
     (All-tail (IsOver ts) (offer_of c.in-Some.result) c.find_first.new.later all, c.self.invariant.1)
