@@ -8,11 +8,11 @@ ghost use Rattle.pengines.specs.Session.{Done, DonePart, DoneToMemory, IsTooLong
 ghost use Rattle.pengines.specs.Words.{IsSession, IsCheck, goal_of, usage};
 
 use crate::checking::{CheckStop, run_check};
+use crate::command::{goal_of, is_session};
 use crate::input::InputStop;
 use crate::output::say;
 use crate::refusal::{Refusal, refusal_line};
 use crate::session::{SessionStop, run_session};
-use crate::command::{goal_of, is_session};
 use outside::{Sink, Source};
 use std::alloc::Global;
 use term_core::Memory;

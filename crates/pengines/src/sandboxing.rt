@@ -177,7 +177,10 @@ fn goals_are_checked(rt: HostRuntime) -> Result<(), Fail> {
 #[test]
 fn a_sink_that_fails_has_no_line(rt: HostRuntime) -> Result<(), Fail> {
     let alloc = rt.alloc();
-    let words = vec![in alloc; String::from_str(alloc, "check")?, String::from_str(alloc, "p")?]?;
+    let words = vec![in alloc;
+        String::from_str(alloc, "check")?,
+        String::from_str(alloc, "p")?,
+    ]?;
     let mut src = MemSource::new(alloc, b"p.", 1, &[])?;
     let mut out = MemSink::new(alloc, &[1])?;
     let mut err = MemSink::new(alloc, &[])?;
