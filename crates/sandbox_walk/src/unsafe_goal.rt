@@ -51,6 +51,10 @@ impl Unsafe {
 fn sandboxed_error(alloc: Global, pi: &Pi) -> Result<Term, Memory>
     ensures { IfOk result (λ t. t ≡ sandboxed_error pi.now) }
 {
-    let args = vec![in alloc; Term::atom(alloc, "call")?, Term::atom(alloc, "sandboxed")?, indicator(alloc, pi)?]?;
+    let args = vec![in alloc;
+        Term::atom(alloc, "call")?,
+        Term::atom(alloc, "sandboxed")?,
+        indicator(alloc, pi)?,
+    ]?;
     Term::comp(alloc, "permission_error", &args)
 }
