@@ -2,6 +2,7 @@
 use Rattle.std.proofs.Common.{◌≡◌, ℕ, zero, suc, ◌≤◌, ◌<◌, Bool, true, false, List, [], ◌∷◌, ◌++◌, length, drop, get_or, Some, None, refl, ap, sym, subst, ◌∙◌, append-nil, arith}
 use Rattle.std.proofs.Math.Seq.{drop-cons}
 use Rattle.std.specs.List.{All}
+use Rattle.std.specs.Option.{MatchOption}
 use Rattle.std.proofs.lemmas.List.Elements.{All-from_recursion, recursion_from_All}
 use Rattle.term_core.specs.Tree.{Tree}
 use Rattle.event_core.specs.declared.stop.Stop.{Stop}
@@ -17,7 +18,7 @@ use Rattle.event_core.specs.declared.rest.Rest.TheVariants.{More, Prompting, Ove
 use Rattle.event_core.specs.Requests.{fit, chunk_after}
 use Rattle.event_core.specs.Parts.{Part, rests, gives, at_next, at_respond, after_chunk, is_full, part_of, part_step}
 use Rattle.event_core.specs.Pieces.{Piece, telling, piece_of, resumed, Seen, seen, adds}
-use Rattle.event_core.specs.Reads.{resumes, pieces_from}
+use Rattle.event_core.specs.Reads.{resumes, pieces_from, rest_reached}
 use Rattle.event_core.specs.Reaching.{IsBegun, IsWhole}
 use Rattle.event_core.proofs.Growing.{adds_twice, further, Parted, parted}
 use Rattle.event_core.proofs.Reaching.{Each}
@@ -237,3 +238,14 @@ module _ (size : Tree → ℕ) where
         let each : Each (λ k. k ≤ n) (part_of size (ps ++ []) c [] rs).events =
         events_each (λ k. k ≤ n) size (ps ++ []) (subst (Each (λ k. k ≤ n)) (sym (append-nil ps)) (recursion_from_All (λ s. s.0 ≤ n) ps h)) c [] rs in
         All-from_recursion (λ e. e.0 ≤ n) p.events (each_first (λ k. k ≤ n) p.events _ (subst (Each (λ k. k ≤ n)) all_told each))
+
+    -- what is told is all of the part, or begins it where the stops ran out and the query goes on
+    pub reached : (goes_on : Bool) (steps limit : ℕ) → (goes_on ≡ false → ps ≡ all) → (goes_on ≡ true → steps < limit) → (goes_on ≡ true → IsBegun steps ps all) →
+        MatchOption (rest_reached p.rest p.ran_out goes_on) ((steps < limit) × IsBegun steps p.events part.events) (λ x. IsWhole part p.events x)
+    reached goes_on steps limit ended fewer more = go p.ran_out goes_on refl refl
+      where
+        go : (b o : Bool) → p.ran_out ≡ b → goes_on ≡ o → MatchOption (rest_reached p.rest b o) ((steps < limit) × IsBegun steps p.events part.events) (λ x. IsWhole part p.events x)
+        go true true e f = (fewer f, begun steps (more f) e)
+        go true false e f = whole (ended f)
+        go false true e f = whole_at_rest steps (more f) e
+        go false false e f = whole (ended f)

@@ -193,7 +193,7 @@ module _ (fits : Tree → Bool) (t : Tree) (P : ℕ → Type 0) where
 -- ---- a query with fewer steps than its limit
 
 module _ (cs : List Clause) (rs : List Tree) (g t : Tree) (fits : Tree → Bool) where
-  abbrev ran : ℕ → Ran
+  abbrev pub ran : ℕ → Ran
   ran n = query (world_of cs rs n) g t
 
   -- the stops that are told of a run that may be cut off at its end

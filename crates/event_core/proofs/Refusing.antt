@@ -16,7 +16,7 @@ use Rattle.event_core.specs.declared.request.Ask.{Ask}
 use Rattle.event_core.specs.Texts.{quoted}
 use Rattle.event_core.specs.Fits.{fits}
 use Rattle.event_core.specs.Stops.{resource_error}
-use Rattle.event_core.specs.Refusals.{told_error, refused, refusal_of}
+use Rattle.event_core.specs.Refusals.{is_verdict, told_error, refused, refusal_of}
 use Rattle.event_core.specs.Laws.{AskedGoalsStayInside}
 
 module _ (cs : List Clause) (a : Ask) where
@@ -28,11 +28,11 @@ module _ (cs : List Clause) (a : Ask) where
   passes h = said None h
 
   -- want of memory is no verdict
-  pub refuses : (u : Unsafe) → (u ≡ Memory → ⊥) → Refuses standard cs a.goal u → Some (refused u) ≡ refusal_of cs a
+  pub refuses : (u : Unsafe) → is_verdict u ≡ true → Refuses standard cs a.goal u → Some (refused u) ≡ refusal_of cs a
   refuses (Sandboxed i) n h = said (Some (Sandboxed i)) h
   refuses Uninstantiated n h = said (Some Uninstantiated) h
   refuses (NotCallable t) n h = said (Some (NotCallable t)) h
-  refuses Memory n h = absurd (n refl)
+  refuses Memory n h = cc
 
   no_verdict : refusal_of cs a ≡ None → verdict standard cs a.goal ≡ None
   unfolding refusal_of

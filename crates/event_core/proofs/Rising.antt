@@ -45,10 +45,6 @@ module _ {A : Type 0} where
   each_append P [] ys h k = k
   each_append P (x ∷ xs) ys h k = (h.0, each_append P xs ys h.1 k)
 
-  rises_none : Rises {A = A} []
-  unfolding Rises
-  rises_none = tt
-
   rises_one : (x : ℕ × A) (xs : List (ℕ × A)) → From x.0 xs → Rises xs → Rises (x ∷ xs)
   unfolding Rises
   rises_one x xs h k = (h, k)
@@ -74,7 +70,8 @@ record IsRising (u : Used) (a : Ran) : Type 0 where
   marks : Rises a.marks
 
 ends_rising : (e : End) (u : Used) → IsRising u (ends e u)
-ends_rising e u = record { rises = omega arith; from = tt; up_to = tt; marks = rises_none }
+unfolding Rises
+ends_rising e u = record { rises = omega arith; from = tt; up_to = tt; marks = tt }
 
 after_rising : (u : Used) (a : Ran) (k : End → Used → Ran) → IsRising u a → IsRising a.used (k a.end a.used) → IsRising u (after a k)
 after_rising u a k g h = record {

@@ -1,5 +1,5 @@
 -- What the reader of a piece stands for.
-use Rattle.std.specs.Prelude.{◌≡◌, ℕ, Bool, true, false, List, [], ◌∷◌, ⊤}
+use Rattle.std.specs.Prelude.{◌≡◌, ℕ, Bool, true, false, List, [], ◌∷◌, Option, Some, None, ⊤}
 use Rattle.term_core.specs.Tree.{Tree}
 use Rattle.event_core.specs.declared.fit.Fit.{Fit}
 use Rattle.event_core.specs.declared.fit.Fit.TheVariants as fits_so
@@ -8,6 +8,7 @@ use Rattle.event_core.specs.declared.piece.Reading.{Reading}
 use Rattle.event_core.specs.declared.piece.Progress.{Progress}
 use Rattle.event_core.specs.declared.piece.Progress.TheVariants.{GoesOn, Rests}
 use Rattle.event_core.specs.declared.request.Request.{Request}
+use Rattle.event_core.specs.declared.rest.Rest.{Rest}
 use Rattle.event_core.specs.declared.stop.Stop.{Stop}
 use Rattle.event_core.specs.declared.stop.Stop.TheVariants as stop
 use Rattle.event_core.specs.Texts.{quoted}
@@ -56,3 +57,9 @@ pieces_from size p c (r ∷ rs) =
       | true ↦ pieces_from size (telling p.events (piece_of size (chunk_after r c) p.left [])) (chunk_after r c) rs
       | false ↦ p
     ]
+
+-- where a query rests, unless its stops ran out and it goes on behind them
+abbrev pub rest_reached : Rest → (ran_out goes_on : Bool) → Option Rest
+rest_reached r true true = None
+rest_reached r true false = Some r
+rest_reached r false b = Some r

@@ -1,5 +1,5 @@
 -- The error of a goal that the sandbox refuses, as an event tells it.
-use Rattle.std.specs.Prelude.{if◌then◌else◌, List, Option}
+use Rattle.std.specs.Prelude.{Bool, true, false, if◌then◌else◌, List, Option}
 use Rattle.std.specs.Option.{option_map}
 use Rattle.term_core.specs.Tree.{Tree}
 use Rattle.term_core.specs.Variables.{numbered}
@@ -7,6 +7,7 @@ use Rattle.builtin_table.specs.Errors.{error_term, no_context}
 use Rattle.builtin_table.specs.Table.{standard}
 use Rattle.program.specs.Clauses.{Clause}
 use Rattle.sandbox_walk.specs.declared.unsafe_goal.Unsafe.{Unsafe}
+use Rattle.sandbox_walk.specs.declared.unsafe_goal.Unsafe.TheVariants.{Sandboxed, Uninstantiated, NotCallable, Memory}
 use Rattle.sandbox_walk.specs.Computed.{verdict}
 use Rattle.sandbox_walk.specs.Formal.{formal_of}
 use Rattle.event_core.specs.declared.request.Ask.{Ask}
@@ -24,6 +25,13 @@ told_error formal = fitting (numbered (error_term formal no_context))
 
 abbrev pub refused : Unsafe → Tree
 refused u = told_error (formal_of u)
+
+-- whether this is said of a goal, and not want of memory
+abbrev pub is_verdict : Unsafe → Bool
+is_verdict (Sandboxed i) = true
+is_verdict Uninstantiated = true
+is_verdict (NotCallable t) = true
+is_verdict Memory = false
 
 -- the error of a goal that the sandbox refuses over these clauses
 unfoldable pub refusal_of : List Clause → Ask → Option Tree

@@ -3,7 +3,7 @@ ghost use Rattle.std.specs.Prelude.{◌≡◌, ◌<◌, ◌≤◌, min, All, [],
 ghost use Rattle.event_core.specs.Texts.{quoted};
 ghost use Rattle.event_core.specs.Fits.{text_size};
 ghost use Rattle.event_core.specs.Requests.{fit};
-ghost use Rattle.event_core.specs.Reads.{piece_at, rest_of, resumes, pieces_from};
+ghost use Rattle.event_core.specs.Reads.{piece_at, rest_of, rest_reached, resumes, pieces_from};
 ghost use Rattle.event_core.specs.Reaching.{IsBegun, IsWhole};
 ghost use Rattle.event_core.specs.Standing.{spec_of};
 
@@ -63,6 +63,13 @@ fn read_on(
     Ok(piece)
 }
 
+// Where a query rests, unless its stops ran out and it goes on behind them.
+fn rest_reached(rest: Rest, ran_out: bool, goes_on: bool) -> Option<Rest>
+    ensures { result ≡ rest_reached rest ran_out goes_on }
+{
+    if ran_out && goes_on { None } else { Some(rest) }
+}
+
 /// The events of a query for these requests after its ask, as far as `steps` steps reach.
 ///
 /// Where the query comes to a rest within that many steps, or within its limit, these are all its events and `rest` tells where it
@@ -89,6 +96,6 @@ pub fn reach(
         ran_out,
         ..
     } = read_on(alloc, chunk, stops, requests)?;
-    let rest = if goes_on && ran_out { None } else { Some(rest) };
+    let rest = rest_reached(rest, ran_out, goes_on);
     Ok(Reached { events, rest })
 }
