@@ -1,8 +1,9 @@
 -- What was read of a source text.
-use Rattle.std.proofs.Common.{◌≡◌, ◌≤◌, ℕ, Bool, true, false, List, Option, Some, None, Result, Ok, Err, length, refl, ap, sym, ◌∙◌, IsUtf8}
+use Rattle.std.proofs.Common.{◌≡◌, ◌≤◌, ℕ, Bool, true, false, List, Option, Some, None, Result, Ok, Err, length, refl, ap, sym, subst, ◌∙◌, IsUtf8}
 use Rattle.std.specs.Str.{is_utf8}
 use Rattle.std.specs.Str.Lossy.{utf8_valid_len}
 use Rattle.std.proofs.lemmas.Str.{IsUtf8-from_is_utf8, is_utf8-from_IsUtf8}
+use Rattle.term_core.specs.declared.pi.Pi.{Pi}
 use Rattle.term_core.specs.Tree.{Tree}
 use Rattle.builtin_table.specs.Table.{standard}
 use Rattle.program.specs.Clauses.{Clause}
@@ -57,8 +58,16 @@ module _ (bs text : List ℕ) (same : text ≡ bs) (u : IsUtf8 bs) where
 pub passed : (p : List Clause) (g : Tree) → Verdict standard p g None → None ≡ verdict standard p g
 passed p g v = (is_one standard p g).only None v
 
-pub refused : (p : List Clause) (g : Tree) (e : Unsafe) → (e ≡ unsafe.Memory → ⊥) → Refuses standard p g e → Some e ≡ verdict standard p g
-refused p g (unsafe.Sandboxed i) n r = (is_one standard p g).only (Some (unsafe.Sandboxed i)) r
-refused p g unsafe.Uninstantiated n r = (is_one standard p g).only (Some unsafe.Uninstantiated) r
-refused p g (unsafe.NotCallable t) n r = (is_one standard p g).only (Some (unsafe.NotCallable t)) r
-refused p g unsafe.Memory n r = absurd (n refl)
+-- what is said of a goal is said of it under another name too
+pub said : (p : List Clause) (g : Tree) (e u : Unsafe) → e ≡ u → Refuses standard p g e → Refuses standard p g u
+said p g e u same = subst (Refuses standard p g) same
+
+module _ (p : List Clause) (g : Tree) where
+  pub sandboxed : (i : Pi) → Refuses standard p g (unsafe.Sandboxed i) → Some (unsafe.Sandboxed i) ≡ verdict standard p g
+  sandboxed i = (is_one standard p g).only (Some (unsafe.Sandboxed i))
+
+  pub uninstantiated : Refuses standard p g unsafe.Uninstantiated → Some unsafe.Uninstantiated ≡ verdict standard p g
+  uninstantiated = (is_one standard p g).only (Some unsafe.Uninstantiated)
+
+  pub not_callable : (t : Tree) → Refuses standard p g (unsafe.NotCallable t) → Some (unsafe.NotCallable t) ≡ verdict standard p g
+  not_callable t = (is_one standard p g).only (Some (unsafe.NotCallable t))

@@ -159,19 +159,28 @@ fn judged(
 {
     let program = source_in(alloc, library, input)?;
     let goal = goal_in(alloc, goal)?;
-    let verdict = verdict_on(alloc, program, &goal)?;
+    let program = shared(alloc, program)?;
+    let verdict = verdict_on(alloc, &program, &goal)?;
     Ok(verdict)
 }
 
-/// The sandbox's verdict on a goal.
-fn verdict_on(alloc: Global, program: Program, goal: &Term) -> Result<Option<Unsafe>, Memory>
-    ensures { IfOk result (λ v. v ≡ verdict standard program goal.now) }
+/// The program, to be shared.
+fn shared(alloc: Global, program: Program) -> Result<Arc<Program>, Memory>
+    ensures { IfOk result (λ p. p.value ≡ program) }
 {
-    let program = Arc::new(alloc, program)?;
-    match check(alloc, &program, goal) {
+    Ok(Arc::new(alloc, program)?)
+}
+
+/// The sandbox's verdict on a goal.
+fn verdict_on(alloc: Global, program: &Arc<Program>, goal: &Term) -> Result<Option<Unsafe>, Memory>
+    ensures { IfOk result (λ v. v ≡ verdict standard program.now.value goal.now) }
+{
+    match check(alloc, program, goal) {
         Ok(_) => Ok(None),
+        Err(Unsafe::Sandboxed(pi)) => Ok(Some(Unsafe::Sandboxed(pi))),
+        Err(Unsafe::Uninstantiated) => Ok(Some(Unsafe::Uninstantiated)),
+        Err(Unsafe::NotCallable(term)) => Ok(Some(Unsafe::NotCallable(term))),
         Err(Unsafe::Memory) => Err(Memory),
-        Err(refusal) => Ok(Some(refusal)),
     }
 }
 
