@@ -26,10 +26,9 @@ use Rattle.event_core.specs.Stops.{stops}
 use Rattle.event_core.specs.Endings.{HasEnd}
 use Rattle.event_core.specs.Pieces.{Piece, piece_of, resumed, Seen, seen, adds}
 use Rattle.event_core.specs.Laws.{Begins}
-use Rattle.event_core.specs.Refusals.{refusal_of}
 use Rattle.event_core.specs.Requests.{kind_of, fit, chunk_after, is_reply}
 use Rattle.event_core.specs.Full as full
-use Rattle.event_core.specs.Full.{Spec, Query, events_of, span, In, at, closes, comes_to, gives_all_at, gives_all, asks, fitted, step}
+use Rattle.event_core.specs.Full.{Spec, Query, events_of, span, In, at, closes, comes_to, gives_all_at, gives_all, fitted, step}
 use Rattle.event_core.specs.Standing.{query_at, further, stops_for, left_after, awaited, chunk_of, IsReadAt, IsRead, spec_of}
 use Rattle.event_core.proofs.Ending.{query_ends}
 use Rattle.event_core.proofs.Growing.{adds_twice, Parts, part_followed, piece_parts}
@@ -225,16 +224,6 @@ module _ (cs : List Clause) (s : Settings) (q : kept.Query) (read : IsRead cs s 
       let g : ℕ = length (events_of spec (query_at q)) in
       sym (arrives cs s q.ask rs (before_it cs s q read x) p.events p.rest p.left c (comes cs s q.ask rs (before_it cs s q read x) read.before left c from p p_is) g refl)
       ∙ ap (λ l. gives_all_at spec (In (record { asked = q.ask; requests = l }) g) []) rs_are
-
--- ---- what an ask does outside of a query
-
-module _ (cs : List Clause) (s : Settings) (a : Ask) where
-  pub refused_ends : (t : Tree) → refusal_of cs a ≡ Some t → closes s.destroys (event.Error t ∷ []) ≡ gives_all (spec_of cs s) (asks (spec_of cs s) a (refusal_of cs a) [])
-  refused_ends t e =
-      sym (ap (λ v. gives_all (spec_of cs s) (asks (spec_of cs s) a v [])) e ∙ closes_rests (spec_of cs s) s.destroys (event.Error t ∷ []))
-
-  pub allowed_begins : refusal_of cs a ≡ None → gives_all_at (spec_of cs s) (In (record { asked = a; requests = [] }) 0) [] ≡ gives_all (spec_of cs s) (asks (spec_of cs s) a (refusal_of cs a) [])
-  allowed_begins e = sym (ap (λ v. gives_all (spec_of cs s) (asks (spec_of cs s) a v [])) e)
 
 -- ---- what a request does to a query that rests
 
