@@ -69,10 +69,10 @@ fn shown(alloc: Global, store: &mut Store, pi: &Pi, args: &[Cell]) -> Result<Str
         return Ok(String::from_str(alloc, "0")?);
     };
     let first = shown_offer(alloc, store, &offer)?;
-    let mut count = 1;
+    let mut count = 1_u64;
     for _ in 0..20 {
         if offers.next(store)?.is_some() {
-            count += 1;
+            count = count.saturating_add(1);
         }
     }
     Ok(format!(in alloc; "{count}{first}")?)
