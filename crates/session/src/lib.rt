@@ -1,6 +1,24 @@
 //! One pengine, whatever turns fall.
 #![tactic(auto)]
 
+mod answers;
+mod automaton;
 mod laws;
+mod letter;
+mod node;
+mod query;
+mod ring;
+mod session;
+mod state;
+mod stub;
+mod took;
+mod turn;
 
+pub use answers::{Given, Pulled, SendFault};
 pub use laws::{lost_turns_are_older, no_more_wait, schedule_doesnt_matter};
+pub use session::Session;
+pub use took::Took;
+pub use turn::Turn;
+
+#[cfg(test)]
+mod tests;

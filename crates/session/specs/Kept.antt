@@ -1,0 +1,123 @@
+-- How a pengine is kept.
+use Rattle.std.specs.Prelude.{◌≡◌, ℕ, ◌+◌, ◌-◌, ◌^◌, ◌≤◌, Bool, true, false, List, [], ◌∷◌, ◌++◌, map, length, Option, Some, None, All}
+use Rattle.circular_buffer.specs.Buffer.{buffer}
+use Rattle.term_core.specs.Tree.{Tree}
+use Rattle.program.specs.Clauses.{Clause}
+use Rattle.event_core.specs.declared.event.Event.{Event}
+use Rattle.event_core.specs.declared.event.Event.TheVariants as event
+use Rattle.event_core.specs.declared.request.Request.{Request}
+use Rattle.event_core.specs.declared.request.Request.TheVariants as request
+use Rattle.event_core.specs.declared.rest.Rest.{Rest}
+use Rattle.event_core.specs.declared.rest.Rest.TheVariants as rest
+use Rattle.event_core.specs.declared.settings.Settings.{Settings}
+use Rattle.event_core.specs.Full.{Spec, Query}
+use Rattle.event_core.specs.Standing.{spec_of}
+use Rattle.session.specs.declared.query.Query as kept
+use Rattle.session.specs.declared.letter.Letter.{Letter}
+use Rattle.session.specs.declared.state.State.{State}
+use Rattle.session.specs.declared.state.State.TheVariants as state
+use Rattle.session.specs.declared.automaton.Automaton.{Automaton}
+use Rattle.session.specs.Views.{Look, Idle, Running, Out, More, Prompting, Ended, View}
+
+abbrev pub query_of : kept.Query → Query
+query_of q = record { asked = q.ask; requests = q.requests }
+
+abbrev pub look_of : State → Look
+look_of state.Idle = Idle
+look_of (state.Running q) = Running (query_of q)
+look_of (state.Out room further) = Out room further
+look_of (state.More q) = More (query_of q)
+look_of (state.Prompting q) = Prompting (query_of q)
+look_of state.Ended = Ended
+
+abbrev pub requests_of : List Letter → List Request
+requests_of ls = map (λ l. l.node) ls
+
+abbrev pub view_of : Automaton → View
+view_of a = record {
+  clauses = a.program.value;
+  settings = a.settings;
+  look = look_of a.state;
+  mailbox = requests_of a.mailbox.items;
+  number = a.number;
+  steps = a.steps;
+  events = a.events;
+  pulled = a.pulled;
+  queue = a.queue.items;
+}
+
+-- a query that rests
+abbrev pub resting : Rest → Query → Look
+resting rest.More q = More q
+resting rest.Prompting q = Prompting q
+resting rest.Over q = Idle
+
+-- the refusal that is kept with a request is that of its goal
+abbrev pub Refuses : Spec → Request → Option Tree → Type 0
+Refuses spec (request.Ask a) t = t ≡ spec.refusal a
+Refuses spec r t = Unit {0}
+
+pub record IsLetter (cs : List Clause) (s : Settings) (l : Letter) : Type 0 where
+  pub program : l.program.value ≡ cs
+  pub refusal : Refuses (spec_of cs s) l.node l.refusal
+
+abbrev pub rests : Rest → kept.Query → State
+rests rest.More q = state.More q
+rests rest.Prompting q = state.Prompting q
+rests rest.Over q = state.Idle
+
+-- whether requests are consumed there
+abbrev pub rests_now : State → Bool
+rests_now state.Idle = true
+rests_now (state.Running q) = false
+rests_now (state.Out room further) = false
+rests_now (state.More q) = true
+rests_now (state.Prompting q) = true
+rests_now state.Ended = false
+
+-- how many events may wait: a turn that is out has its room
+abbrev pub places : State → ℕ
+places state.Idle = 65
+places (state.Running q) = 64
+places (state.Out room further) = 64 - room
+places (state.More q) = 64
+places (state.Prompting q) = 64
+places state.Ended = 66
+
+-- how many requests the query has after its ask
+abbrev pub further_of : State → ℕ
+further_of state.Idle = 0
+further_of (state.Running q) = length q.requests
+further_of (state.Out room further) = further
+further_of (state.More q) = length q.requests
+further_of (state.Prompting q) = length q.requests
+further_of state.Ended = 0
+
+-- the query that is kept runs over these clauses
+abbrev pub IsOver : List Clause → State → Type 0
+IsOver cs state.Idle = Unit {0}
+IsOver cs (state.Running q) = q.program.value ≡ cs
+IsOver cs (state.Out room further) = Unit {0}
+IsOver cs (state.More q) = q.program.value ≡ cs
+IsOver cs (state.Prompting q) = q.program.value ≡ cs
+IsOver cs state.Ended = Unit {0}
+
+-- what holds of every pengine that is kept
+pub record IsSound (a : Automaton) : Type 0 where
+  pub queue_room : a.queue.capacity ≡ 66
+  pub mailbox_room : a.mailbox.capacity ≡ 64
+  pub waits : length a.queue.items ≤ places a.state
+  pub box : length a.mailbox.items ≤ 64
+  pub count : a.number + further_of a.state + length a.mailbox.items ≤ a.accepted
+  pub bound : a.accepted ≤ 2 ^ 62
+  pub letters : All (IsLetter a.program.value a.settings) a.mailbox.items
+  pub clauses : IsOver a.program.value a.state
+
+-- one event more waits
+abbrev pub says : Event → Automaton → Automaton
+says e a = record a { queue = buffer (a.queue.items ++ e ∷ []) a.queue.capacity }
+
+-- a query has ended, and where the pengine is to be destroyed it has ended too
+abbrev pub closed : Bool → Automaton → Automaton
+closed true a = record a { state = state.Ended; mailbox = buffer [] a.mailbox.capacity; queue = buffer (a.queue.items ++ event.Destroy ∷ []) a.queue.capacity }
+closed false a = record a { state = state.Idle }

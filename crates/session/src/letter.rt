@@ -1,0 +1,43 @@
+ghost use Rattle.std.specs.Prelude.{◌≡◌, IfOk};
+ghost use Rattle.event_core.specs.declared.settings.Settings.{Settings};
+ghost use Rattle.session.specs.Kept.{IsLetter};
+
+use crate::node::Node;
+use crate::stub::refusal;
+use event_core::Request;
+use program::Program;
+use std::alloc::Global;
+use std::sync::Arc;
+use term_core::{Memory, Term};
+
+// A request that waits, with what its consuming needs: so that takes no memory.
+#[derive(Debug, Drop)]
+pub(crate) struct Letter {
+    pub(crate) node: Node,
+    pub(crate) program: Arc<Program>,
+    // The error of the goal of an ask that the sandbox refuses.
+    pub(crate) refusal: Option<Term>,
+}
+
+impl Letter {
+    pub(crate) fn new(
+        alloc: Global,
+        program: &Arc<Program>,
+        request: Request,
+    ) -> Result<Letter, Memory>
+        ensures request { IfOk result (λ l. l.node ≡ request) }
+        ensures letter { IfOk result (λ l. (s : Settings) → IsLetter program.now.value s l) }
+    {
+        let refusal = match &request {
+            Request::Ask(ask) => refusal(alloc, program, ask)?,
+            Request::Next(_) | Request::Stop | Request::Respond(_) => None,
+        };
+        let program = program.clone()?;
+        let node = Node::new(alloc, request)?;
+        Ok(Letter {
+            node,
+            program,
+            refusal,
+        })
+    }
+}
