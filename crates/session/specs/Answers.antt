@@ -1,6 +1,9 @@
 -- What the calls of a session answer.
-use Rattle.std.specs.Prelude.{ℕ, Bool, true, false, if◌then◌else◌, List, [], ◌∷◌, length, nat_lt}
+use Rattle.std.specs.Prelude.{ℕ, Bool, true, false, ◌==◌, if◌then◌else◌, List, [], ◌∷◌, length, nat_lt}
 use Rattle.event_core.specs.declared.event.Event.{Event}
+use Rattle.event_core.specs.declared.event.Event.TheVariants as event
+use Rattle.session.specs.declared.answers.Given.{Given}
+use Rattle.session.specs.declared.answers.Given.TheVariants as given
 use Rattle.session.specs.declared.answers.Pulled.{Pulled}
 use Rattle.session.specs.declared.answers.Pulled.TheVariants as pulled
 use Rattle.session.specs.declared.took.Took.{Took}
@@ -35,3 +38,15 @@ is_turn a = false
 
 abbrev pub ready : View → Bool
 ready v = is_turn (takes v)
+
+-- the event `destroy`, unless it came before
+abbrev pub last_of : Look → List Event
+last_of l = if is_ended l then [] else event.Destroy ∷ []
+
+-- A turn is kept where its query is the one that is out.
+abbrev pub is_present : Look → (number of : ℕ) → Bool
+is_present (Out room further) n k = n == k
+is_present l n k = false
+
+abbrev pub gives : View → (of : ℕ) → Given
+gives v k = if is_present v.look v.number k then given.Kept else given.Dropped

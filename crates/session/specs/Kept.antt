@@ -1,5 +1,5 @@
 -- How a pengine is kept.
-use Rattle.std.specs.Prelude.{◌≡◌, ℕ, ◌+◌, ◌-◌, ◌^◌, ◌≤◌, Bool, true, false, List, [], ◌∷◌, ◌++◌, map, length, Option, Some, None, All}
+use Rattle.std.specs.Prelude.{◌≡◌, ℕ, ◌+◌, ◌-◌, ◌^◌, ◌≤◌, ◌<◌, Bool, true, false, if◌then◌else◌, nat_le, take, drop, List, [], ◌∷◌, ◌++◌, map, length, Option, Some, None, All}
 use Rattle.circular_buffer.specs.Buffer.{buffer}
 use Rattle.term_core.specs.Tree.{Tree}
 use Rattle.program.specs.Clauses.{Clause}
@@ -10,14 +10,17 @@ use Rattle.event_core.specs.declared.request.Request.TheVariants as request
 use Rattle.event_core.specs.declared.rest.Rest.{Rest}
 use Rattle.event_core.specs.declared.rest.Rest.TheVariants as rest
 use Rattle.event_core.specs.declared.settings.Settings.{Settings}
-use Rattle.event_core.specs.Full.{Spec, Query}
+use Rattle.event_core.specs.Full.{Spec, Query, part_of, events_of}
 use Rattle.event_core.specs.Standing.{spec_of}
 use Rattle.session.specs.declared.query.Query as kept
+use Rattle.session.specs.declared.turn.Gone as kept_turn
 use Rattle.session.specs.declared.letter.Letter.{Letter}
 use Rattle.session.specs.declared.state.State.{State}
 use Rattle.session.specs.declared.state.State.TheVariants as state
 use Rattle.session.specs.declared.automaton.Automaton.{Automaton}
-use Rattle.session.specs.Views.{Look, Idle, Running, Out, More, Prompting, Ended, View}
+use Rattle.session.specs.After as after
+use Rattle.session.specs.After.{Pengine, turned_at}
+use Rattle.session.specs.Views.{Look, Idle, Running, Out, More, Prompting, Ended, View, IsSeen, spec_seen}
 
 abbrev pub query_of : kept.Query → Query
 query_of q = record { asked = q.ask; requests = q.requests }
@@ -121,3 +124,25 @@ says e a = record a { queue = buffer (a.queue.items ++ e ∷ []) a.queue.capacit
 abbrev pub closed : Bool → Automaton → Automaton
 closed true a = record a { state = state.Ended; mailbox = buffer [] a.mailbox.capacity; queue = buffer (a.queue.items ++ event.Destroy ∷ []) a.queue.capacity }
 closed false a = record a { state = state.Idle }
+
+-- the query and the events of a turn that is given back, where it is the one that is out
+pub record IsBack (a : Automaton) (q : kept.Query) (g : kept_turn.Gone) : Type 0 where
+  pub room : ℕ
+  pub further : ℕ
+  pub is_out : a.state ≡ state.Out room further
+  pub clauses : q.program.value ≡ a.program.value
+  pub requests : length q.requests ≡ further
+  pub events : length g.events ≤ room
+  pub steps_fit : a.steps + g.steps < 2 ^ 64
+  pub events_fit : a.events + length g.events < 2 ^ 64
+
+-- the turn tells what its query gives after the first k events
+pub record Tells (spec : Spec) (q : Query) (k : ℕ) (g : kept_turn.Gone) : Type 0 where
+  pub made : g.events ≡ drop k (take (k + length g.events) (events_of spec q))
+  pub rest : g.starved ≡ false → g.rest ≡ (if nat_le (length (events_of spec q)) (k + length g.events) then Some (part_of spec q).rest else None)
+
+-- the turn was kept, before requests are consumed
+pub record Turns (q : kept.Query) (g : kept_turn.Gone) (v w : View) : Type 0 where
+  pub clauses : w.clauses ≡ v.clauses
+  pub settings : w.settings ≡ v.settings
+  pub seen : (p : Pengine) → p.state ≡ after.Running (query_of q) → Tells (spec_seen v) (query_of q) v.events g → IsSeen v p → IsSeen w (turned_at (spec_seen v) g.steps (length g.events) g.starved p.state (record p { turn = None }))

@@ -109,3 +109,22 @@ turn_at v q = record {
   room = most_waiting - length v.queue;
   gone = None;
 }
+
+-- events that were handed out together, and the number of the first
+pub record Waits : Type 0 where
+  pub first : ℕ
+  pub events : List Event
+
+-- the turn of the query that is out
+pub record IsPresent (v : View) (t : TurnView) (room further : ℕ) : Type 0 where
+  pub clauses : t.clauses ≡ v.clauses
+  pub settings : t.settings ≡ v.settings
+  pub steps : t.steps ≡ v.steps
+  pub events : t.events ≡ v.events
+  pub room : t.room ≡ room
+  pub further : length t.query.requests ≡ further
+
+-- The turn that is given back is one of this pengine's, and has gone. Where its number is that of the query that is out, it is that query's turn.
+pub record IsTurnOf (v : View) (t : TurnView) : Type 0 where
+  pub gone : (g : Gone) × (t.gone ≡ Some g)
+  pub present : (room further : ℕ) → v.look ≡ Out room further → t.number ≡ v.number → IsPresent v t room further

@@ -1,20 +1,26 @@
 // A pengine as it is kept, entry by entry.
-ghost use Rattle.std.specs.Prelude.{◌≡◌, ◌≢◌, ◌+◌, ◌-◌, ◌<◌, ◌^◌, false, List as list, [], ◌∷◌, ◌++◌, length, IfSome, IfNone, OnSome, IfOk, OnOk, OnErr, IsTrue, ◌↔◌};
+ghost use Rattle.std.specs.Prelude.{◌≡◌, ◌≢◌, ◌+◌, ◌-◌, ◌<◌, ◌≤◌, ◌^◌, false, List as list, [], ◌∷◌, ◌++◌, map, length, Some, IfSome, IfNone, OnSome, IfOk, OnOk, OnErr, IsTrue, ◌↔◌};
 ghost use Rattle.event_core.specs.declared.event.Event.{Event};
 ghost use Rattle.event_core.specs.declared.rest.Rest.TheVariants as rest;
+ghost use Rattle.circular_buffer.specs.Buffer.{buffer};
 ghost use Rattle.session.specs.declared.state.State.TheVariants as at;
-ghost use Rattle.session.specs.After.{begins, fits, settled, made, Sent, Pulled, Abort};
-ghost use Rattle.session.specs.Answers.{takes, is_turn};
-ghost use Rattle.session.specs.Views.{spec_seen, turn_at, taken, IsSeen, Does, Enters};
-ghost use Rattle.session.specs.Kept.{query_of, view_of, resting, rests, rests_now, further_of, IsLetter, IsSound, says, closed};
+ghost use Rattle.session.specs.declared.answers.Given.TheVariants as given;
+ghost use Rattle.session.specs.TurnsKept.{Keeps};
+ghost use Rattle.session.specs.Views as view;
+ghost use Rattle.session.specs.After.{begins, fits, settled, made, Sent, Pulled, Abort, Given};
+ghost use Rattle.session.specs.Answers.{takes, is_turn, last_of, gives};
+ghost use Rattle.session.specs.Views.{spec_seen, turn_at, taken, IsSeen, Does, Enters, IsTurnOf};
+ghost use Rattle.session.specs.Kept.{query_of, look_of, view_of, resting, rests, rests_now, further_of, IsLetter, IsSound, IsBack, Turns, says, closed};
 
+use crate::answers::Given;
 use crate::letter::Letter;
 use crate::node::Node;
 use crate::query::Query;
 use crate::ring::put;
 use crate::state::State;
 use crate::took::Took;
-use crate::turn::Turn;
+use crate::turn::{Gone, Turn};
+use crate::waiting::Waiting;
 use circular_buffer::HeapCircularBuffer;
 use event_core::{Event, Request, Rest, Settings};
 use program::Program;
@@ -22,7 +28,7 @@ use std::alloc::Global;
 use std::collections::LinkedList;
 use std::mem;
 use std::sync::Arc;
-use term_core::{Memory, Term};
+use term_core::{List, Memory, Term};
 
 // The events that may wait before the pengine stands still.
 pub(crate) const MOST_WAITING: usize = 64;
@@ -360,6 +366,87 @@ impl Automaton {
                 self.state = other;
                 Took::Idle
             }
+        }
+    }
+
+    // The events of a turn wait behind the others.
+    fn wait(&mut self, events: List<(u64, Event)>)
+        requires { length self.old.queue.items + length events ≤ self.old.queue.capacity }
+        ensures { self.new ≡ record self.old { queue = buffer (self.old.queue.items ++ map (λ x. x.1) events) self.old.queue.capacity } }
+    {
+        for (_, event) in events.into_vec() {
+            put(&mut self.queue, event);
+        }
+    }
+
+    // The turn of the query that is out is kept.
+    fn keep(&mut self, query: Query, gone: Gone)
+        requires sound { IsSound self.old }
+        requires back { IsBack self.old query gone }
+        ensures sound { IsSound self.new }
+        ensures turns { Turns query gone (view_of self.old) (view_of self.new) }
+    {
+        let Gone {
+            steps,
+            events,
+            starved,
+            rest,
+        } = gone;
+        self.steps += steps;
+        self.events += events.len() as u64;
+        self.wait(events);
+        if starved {
+            self.emit(Event::Memory);
+            self.end();
+            return;
+        }
+        match rest {
+            None => self.state = State::Running(query),
+            Some(Rest::Over) => self.end(),
+            Some(rest) => self.rest(query, rest),
+        }
+    }
+
+    // A turn is given back: it is kept where its query is the one that is out, and dropped otherwise.
+    pub(crate) fn give(&mut self, turn: Turn) -> Given
+        requires sound { IsSound self.old }
+        requires turn { IsTurnOf (view_of self.old) turn }
+        ensures sound { IsSound self.new }
+        ensures answer { result ≡ gives (view_of self.old) turn.number }
+        ensures kept { (g : view.Gone) → result ≡ given.Kept → turn.gone ≡ Some g → Keeps (view_of self.old) turn g (view_of self.new) }
+        ensures dropped { (g : view.Gone) → result ≡ given.Dropped → turn.gone ≡ Some g → Enters (Given turn.number g.steps (length g.events) g.starved false) (view_of self.old) (view_of self.new) }
+    {
+        let is_out = matches!(self.state, State::Out { .. });
+        if !is_out || turn.number != self.number {
+            self.settle();
+            return Given::Dropped;
+        }
+        let Turn { query, gone, .. } = turn;
+        if let Some(gone) = gone {
+            self.keep(query, gone);
+        }
+        self.settle();
+        Given::Kept
+    }
+
+    // The pengine is gone, and all its events are handed out.
+    pub(crate) fn destroy(self) -> Waiting
+        requires { IsSound self }
+        ensures first { result.first ≡ self.pulled }
+        ensures events { result.events ≡ self.queue.items ++ last_of (look_of self.state) }
+    {
+        let Automaton {
+            state,
+            pulled,
+            mut queue,
+            ..
+        } = self;
+        if !matches!(state, State::Ended) {
+            put(&mut queue, Event::Destroy);
+        }
+        Waiting {
+            first: pulled,
+            events: queue,
         }
     }
 }

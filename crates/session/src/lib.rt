@@ -5,6 +5,7 @@ mod answers;
 mod automaton;
 mod laws;
 mod letter;
+mod made;
 mod node;
 mod query;
 mod ring;
@@ -13,12 +14,15 @@ mod state;
 mod stub;
 mod took;
 mod turn;
+mod waiting;
 
 pub use answers::{Given, Pulled, SendFault};
 pub use laws::{lost_turns_are_older, no_more_wait, schedule_doesnt_matter};
+pub use made::Made;
 pub use session::Session;
 pub use took::Took;
 pub use turn::Turn;
+pub use waiting::Waiting;
 
 #[cfg(test)]
 mod tests;

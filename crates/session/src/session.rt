@@ -1,14 +1,18 @@
-ghost use Rattle.std.specs.Prelude.{◌≡◌, ◌≢◌, ◌≤◌, [], length, IfOk, OnOk, OnErr, IsTrue, ◌↔◌, false, Err};
+ghost use Rattle.std.specs.Prelude.{◌≡◌, ◌≢◌, ◌≤◌, [], ◌++◌, length, drop, IfOk, OnOk, OnErr, IsTrue, ◌↔◌, false, Err, Some};
 ghost use Rattle.session.specs.declared.answers.SendFault.TheVariants as fault;
-ghost use Rattle.session.specs.After.{Sent, Pulled as Pull, Abort, Taken, most_requests};
-ghost use Rattle.session.specs.Answers.{is_ended, pulls, takes, is_turn, ready};
-ghost use Rattle.session.specs.Views.{Ended, Enters, taken};
+ghost use Rattle.session.specs.After.{Sent, Pulled as Pull, Abort, Destroy, Taken, Given as GivenBack, Pengine, after_entry, most_requests};
+ghost use Rattle.session.specs.Answers.{is_ended, pulls, takes, is_turn, ready, last_of, gives};
+ghost use Rattle.session.specs.Views.{Ended, IsSeen, Enters, taken, spec_seen, Gone, IsTurnOf};
+ghost use Rattle.session.specs.TurnsKept.{Keeps};
+ghost use Rattle.session.specs.declared.answers.Given.TheVariants as given;
 ghost use Rattle.session.specs.Begun.{IsBegun};
 
-use crate::answers::{Pulled, SendFault};
+use crate::answers::{Given, Pulled, SendFault};
 use crate::automaton::{Automaton, MOST_REQUESTS, MOST_WAITING};
 use crate::state::State;
 use crate::took::Took;
+use crate::turn::Turn;
+use crate::waiting::Waiting;
 use event_core::{Request, Settings, Spec};
 use std::alloc::Global;
 use std::marker::Model;
@@ -108,12 +112,31 @@ impl Session {
         self.automaton.take()
     }
 
+    /// Takes back a turn that this session gave and that has gone: `Dropped` exactly where its query was broken off since.
+    pub fn give(&mut self, turn: Turn) -> Given
+        requires { IsTurnOf self.old turn }
+        ensures answer { result ≡ gives self.old turn.number }
+        ensures kept { (g : Gone) → result ≡ given.Kept → turn.gone ≡ Some g → Keeps self.old turn g self.new }
+        ensures dropped { (g : Gone) → result ≡ given.Dropped → turn.gone ≡ Some g → Enters (GivenBack turn.number g.steps (length g.events) g.starved false) self.old self.new }
+    {
+        self.automaton.give(turn)
+    }
+
     /// Breaks off the query that runs or rests, whose turn is then dropped, and drops the requests that wait.
     /// Outside of a query no event comes.
     pub fn abort(&mut self)
         ensures { Enters Abort self.old self.new }
     {
         self.automaton.abort();
+    }
+
+    /// Ends the pengine, and hands out all events that wait, with `destroy` as the last one.
+    pub fn destroy(self) -> Waiting
+        ensures first { result.first ≡ self.pulled }
+        ensures events { result.events ≡ self.queue ++ last_of self.look }
+        ensures destroyed { (p : Pengine) → IsSeen self p → drop p.pulled (after_entry (spec_seen self) Destroy p).emitted ≡ result.events }
+    {
+        self.automaton.destroy()
     }
 
     /// Whether the pengine has ended.
