@@ -5,3 +5,4 @@ pub mod Room
 mod Rows
 pub mod Schedule
 pub mod Seen
+pub mod Turning

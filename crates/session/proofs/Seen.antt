@@ -1,5 +1,8 @@
 -- What the code does to a pengine, and what the definition does, look the same.
-use Rattle.std.proofs.Common.{◌≡◌, ◌≢◌, ℕ, zero, suc, ◌+◌, ◌-◌, ◌≤◌, ◌<◌, ◌^◌, min, Bool, true, false, ◌&&◌, List, [], ◌∷◌, ◌++◌, map, length, nat_lt, Option, Some, None, All, refl, ap, sym, subst, ◌∙◌, append_assoc, length-append, IsTrue, arith}
+use Rattle.std.proofs.Common.{◌≡◌, ◌≢◌, ℕ, zero, suc, ◌+◌, ◌-◌, ◌≤◌, ◌<◌, ◌^◌, min, Bool, true, false, ◌&&◌, List, [], ◌∷◌, ◌++◌, map, length, drop, slice_get, nat_lt, Option, Some, None, All, refl, ap, sym, subst, ◌∙◌, append_assoc, append-nil, length-append, IsTrue, arith}
+use Rattle.std.proofs.Math.Seq.{drop-append_seam}
+use Rattle.std.proofs.lemmas.List.{map-append}
+use Rattle.std.proofs.lemmas.Bool.{ltb-true, lt-ltb}
 use Rattle.circular_buffer.specs.Buffer.{buffer}
 use Rattle.term_core.specs.Tree.{Tree}
 use Rattle.event_core.specs.declared.event.Event.{Event}
@@ -12,16 +15,20 @@ use Rattle.event_core.specs.declared.request.Request.TheVariants as request
 use Rattle.event_core.specs.declared.rest.Rest.{Rest}
 use Rattle.event_core.specs.declared.rest.Rest.TheVariants as rest
 use Rattle.event_core.specs.Requests.{kind_of, fit}
-use Rattle.event_core.specs.Full.{Spec, Query}
+use Rattle.program.specs.Clauses.{Clause}
+use Rattle.event_core.specs.declared.settings.Settings.{Settings}
+use Rattle.event_core.specs.Full.{Spec, Query, part_of, events_of, span}
 use Rattle.session.specs.declared.query.Query as kept
+use Rattle.session.specs.declared.turn.Gone as kept_turn
 use Rattle.session.specs.declared.letter.Letter.{Letter}
 use Rattle.session.specs.declared.state.State as at
 use Rattle.session.specs.declared.state.State.TheVariants as at
 use Rattle.session.specs.declared.automaton.Automaton.{Automaton}
 use Rattle.session.specs.After as state
-use Rattle.session.specs.After.{State, Pengine, waiting, emits, ends, begins, fits, first_consumed, consumes_now, settled, aborted_at, struck, most_waiting}
-use Rattle.session.specs.Views.{Look, Idle, Running, Out, More, Prompting, Ended, View, IsLook, IsKept, IsSeen}
-use Rattle.session.specs.Kept.{query_of, look_of, requests_of, view_of, resting, rests, rests_now, places, further_of, IsOver, IsLetter, IsSound, says, closed}
+use Rattle.session.specs.After.{State, Pengine, waiting, emits, ends, begins, fits, first_consumed, consumes_now, settled, aborted_at, destroyed_at, handed_out, struck, most_waiting, after_entry, Taken, Destroy}
+use Rattle.session.specs.Views.{Look, Idle, Running, Out, More, Prompting, Ended, View, IsLook, IsKept, IsSeen, spec_seen, Does, Enters, out, taken}
+use Rattle.session.specs.Answers.{is_turn, takes, takes_at, last_of}
+use Rattle.session.specs.Kept.{query_of, look_of, requests_of, view_of, resting, rests, rests_now, places, further_of, IsOver, IsLetter, IsSound, Tells, says, closed}
 
 -- one event more
 pub said : (v : View) (p : Pengine) (e : Event) → IsKept v p → IsKept (record v { queue = v.queue ++ e ∷ [] }) (emits e p)
@@ -207,12 +214,12 @@ unfolded : (spec : Spec) (n : ℕ) (p : Pengine) (b : Bool) → consumes_now p.s
 unfolding settled
 unfolded spec n p b e = ap (λ z. elim z as (λ z. Pengine) [ true ↦ settled spec n (first_consumed spec p.mailbox p) | false ↦ p ]) e
 
+pub settled_none : (spec : Spec) (p : Pengine) → settled spec 0 p ≡ p
+unfolding settled
+settled_none spec p = refl
+
 pub stays : (spec : Spec) (n : ℕ) (p : Pengine) → consumes_now p.state && nat_lt (waiting p) most_waiting ≡ false → settled spec n p ≡ p
-stays spec zero p e = none spec p
-  where
-    none : (spec : Spec) (p : Pengine) → settled spec 0 p ≡ p
-    unfolding settled
-    none spec p = refl
+stays spec zero p e = settled_none spec p
 stays spec (suc n) p e = unfolded spec n p false e
 
 pub goes : (spec : Spec) (n : ℕ) (p : Pengine) → consumes_now p.state && nat_lt (waiting p) most_waiting ≡ true → settled spec (suc n) p ≡ settled spec n (first_consumed spec p.mailbox p)
@@ -280,3 +287,281 @@ breaks_off spec (at.Out room further) t o p b l = ap (λ z. aborted_at spec z p)
 breaks_off spec (at.More q) t o p b l = ap (λ z. aborted_at spec z p) l.0
 breaks_off spec (at.Prompting q) t o p b l = ap (λ z. aborted_at spec z p) l.0
 breaks_off spec at.Ended t o p b l = absurd b
+
+-- A take
+
+pub still : (spec : Spec) (n : ℕ) (p : Pengine) → consumes_now p.state ≡ false → settled spec n p ≡ p
+still spec n p e = stays spec n p (ap (λ b. b && nat_lt (waiting p) most_waiting) e)
+
+is_taken : (v : View) (l : Look) → v.look ≡ l → IsTrue (is_turn (takes_at v l)) → Does (after_entry (spec_seen v) Taken) v (record v { look = out l (most_waiting - length v.queue) })
+is_taken v Idle e h = cc
+is_taken v (Running q) e h = record {
+  clauses = refl;
+  settings = refl;
+  seen = λ p s.
+      let l : IsLook (Running q) p.state p.turn = subst (λ z. IsLook z p.state p.turn) e s.look in
+      subst (λ (z : Pengine). IsSeen (record v { look = Out (most_waiting - length v.queue) (length q.requests) }) z) (sym (still (spec_seen v) (length p.mailbox) (record p { turn = Some (most_waiting - waiting p) }) (ap consumes_now l.0)))
+      (record {
+        look = ((q, l.0, refl), ap (λ k. Some (most_waiting - k)) (waits_as v p s.kept));
+        kept = moved v p (Out (most_waiting - length v.queue) (length q.requests)) p.state (Some (most_waiting - waiting p)) s.kept;
+      });
+}
+is_taken v (Out room further) e h = cc
+is_taken v (More q) e h = cc
+is_taken v (Prompting q) e h = cc
+is_taken v Ended e h = cc
+
+pub taken_enters : (v : View) → IsTrue (is_turn (takes v)) → Enters Taken v (taken v)
+taken_enters v h = is_taken v v.look refl h
+
+-- A pull
+
+pub pulled_seen : (a : Automaton) (e : Event) (es : List Event) (p : Pengine) → a.queue.items ≡ e ∷ es → IsSeen (view_of a) p → IsSeen (view_of (record a { queue = buffer es a.queue.capacity; pulled = min (a.pulled + 1) (2 ^ 64 - 1) })) (record p { pulled = suc p.pulled })
+pulled_seen a e es p w h = record {
+  look = h.look;
+  kept = record {
+    mailbox = h.kept.mailbox;
+    number = h.kept.number;
+    steps = h.kept.steps;
+    events = h.kept.events;
+    pulled = (let k : a.pulled ≡ min p.pulled (2 ^ 64 - 1) = h.kept.pulled in omega (arith, k));
+    before = h.kept.before ++ e ∷ [];
+    handed = (let k : length (h.kept.before ++ e ∷ []) ≡ suc (length h.kept.before) = longer h.kept.before e in omega (arith, k, h.kept.handed));
+    emitted = h.kept.emitted ∙ ap (λ l. h.kept.before ++ l) w ∙ sym (append_assoc h.kept.before (e ∷ []) es);
+  };
+}
+
+-- A request is accepted
+
+pub sent_seen : (a : Automaton) (l : Letter) (n : ℕ) (p : Pengine) → IsSeen (view_of a) p → IsSeen (view_of (record a { mailbox = buffer (a.mailbox.items ++ l ∷ []) a.mailbox.capacity; accepted = n })) (record p { mailbox = p.mailbox ++ l.node ∷ [] })
+sent_seen a l n p h = record {
+  look = h.look;
+  kept = record {
+    mailbox = map-append (λ (x : Letter). x.node) a.mailbox.items (l ∷ []) ∙ ap (λ rs. rs ++ l.node ∷ []) h.kept.mailbox;
+    number = h.kept.number;
+    steps = h.kept.steps;
+    events = h.kept.events;
+    pulled = h.kept.pulled;
+    before = h.kept.before;
+    handed = h.kept.handed;
+    emitted = h.kept.emitted;
+  };
+}
+
+letters_more : (cs : List Clause) (s : Settings) (ls : List Letter) (l : Letter) → All (IsLetter cs s) ls → IsLetter cs s l → All (IsLetter cs s) (ls ++ l ∷ [])
+letters_more cs s [] l h k = (k, tt)
+letters_more cs s (x ∷ ls) l h k = (h.0, letters_more cs s ls l h.1 k)
+
+pub sent_sound : (a : Automaton) (l : Letter) → IsSound a → length a.mailbox.items < 64 → a.accepted < 2 ^ 62 → IsLetter a.program.value a.settings l → IsSound (record a { mailbox = buffer (a.mailbox.items ++ l ∷ []) a.mailbox.capacity; accepted = a.accepted + 1 })
+sent_sound a l h r b k =
+    let m : length (a.mailbox.items ++ l ∷ []) ≡ suc (length a.mailbox.items) = longer a.mailbox.items l in
+    record {
+      queue_room = h.queue_room;
+      mailbox_room = h.mailbox_room;
+      waits = h.waits;
+      box = omega (arith, m, r);
+      count = omega (arith, m, h.count);
+      bound = omega (arith, b);
+      letters = letters_more a.program.value a.settings a.mailbox.items l h.letters k;
+      clauses = h.clauses;
+    }
+
+-- A turn is kept
+
+abbrev pub advanced : kept_turn.Gone → Automaton → Automaton
+advanced g a = record a { steps = a.steps + g.steps; events = a.events + length g.events; queue = buffer (a.queue.items ++ map (λ x. x.1) g.events) a.queue.capacity }
+
+abbrev pub gave : Spec → Query → kept_turn.Gone → Pengine → Pengine
+gave spec q g p = record p { steps = p.steps + g.steps; events = p.events + length g.events; emitted = p.emitted ++ span spec q p.events (p.events + length g.events) }
+
+pub gave_kept : (spec : Spec) (q : Query) (g : kept_turn.Gone) (a : Automaton) (p : Pengine) → Tells spec q a.events g → IsKept (view_of a) p → IsKept (view_of (advanced g a)) (gave spec q g p)
+gave_kept spec q g a p t h =
+    let m : map (λ x. x.1) g.events ≡ span spec q p.events (p.events + length g.events) =
+        ap (λ es. map (λ x. x.1) es) t.made ∙ ap (λ k. span spec q k (k + length g.events)) h.events in
+    record {
+      mailbox = h.mailbox;
+      number = h.number;
+      steps = ap (λ k. k + g.steps) h.steps;
+      events = ap (λ k. k + length g.events) h.events;
+      pulled = h.pulled;
+      before = h.before;
+      handed = h.handed;
+      emitted = ap (λ es. es ++ span spec q p.events (p.events + length g.events)) h.emitted ∙ append_assoc h.before a.queue.items (span spec q p.events (p.events + length g.events)) ∙ ap (λ es. h.before ++ a.queue.items ++ es) (sym m);
+    }
+
+-- What the calls of the code do
+
+closed_clauses : (b : Bool) (a : Automaton) → (view_of (closed b a)).clauses ≡ a.program.value
+closed_clauses true a = refl
+closed_clauses false a = refl
+
+closed_settings : (b : Bool) (a : Automaton) → (view_of (closed b a)).settings ≡ a.settings
+closed_settings true a = refl
+closed_settings false a = refl
+
+idle_turn : (s : at.State) (t : State) (o : Option ℕ) → s ≡ at.Idle → IsLook (look_of s) t o → (t ≡ state.Idle) × (o ≡ None)
+idle_turn s t o e l = subst (λ z. IsLook (look_of z) t o) e l
+
+pub refused_does : (a : Automaton) (ask : Ask) (t : Tree) → a.state ≡ at.Idle → Does (begins (spec_seen (view_of a)) ask (Some t)) (view_of a) (view_of (closed a.settings.destroys (says (event.Error t) (counted a))))
+refused_does a ask t e = record {
+  clauses = closed_clauses a.settings.destroys (says (event.Error t) (counted a));
+  settings = closed_settings a.settings.destroys (says (event.Error t) (counted a));
+  seen = λ p h. refused_seen (spec_seen (view_of a)) ask t a p (idle_turn a.state p.state p.turn e h.look).1 h.kept;
+}
+
+pub further_of_not : (r : Request) → ((x : Ask) → r ≡ request.Ask x → ⊥) → IsFurther r
+further_of_not (request.Ask x) n = n x refl
+further_of_not (request.Next c) n = tt
+further_of_not request.Stop n = tt
+further_of_not (request.Respond x) n = tt
+
+pub other_does : (a : Automaton) (r : Request) → a.state ≡ at.Idle → IsFurther r → Does (λ p. fits (spec_seen (view_of a)) p.state r p) (view_of a) (view_of (says (event.Protocol (kind_of r)) a))
+other_does a r e f = record {
+  clauses = refl;
+  settings = refl;
+  seen = λ p h.
+      let i : (p.state ≡ state.Idle) × (p.turn ≡ None) = idle_turn a.state p.state p.turn e h.look in
+      subst (λ (z : Pengine). IsSeen (view_of (says (event.Protocol (kind_of r)) a)) z) (sym (fits_idle (spec_seen (view_of a)) p.state r p i.0 f))
+      (record { look = h.look; kept = said (view_of a) p (event.Protocol (kind_of r)) h.kept });
+}
+
+pub says_sound : (e : Event) (a : Automaton) → IsSound a → a.state ≡ at.Idle → length a.queue.items < 64 → IsSound (says e a)
+says_sound e a h i r = record {
+  queue_room = h.queue_room;
+  mailbox_room = h.mailbox_room;
+  waits = subst (λ z. length (a.queue.items ++ e ∷ []) ≤ places z) (sym i) (omega (arith, longer a.queue.items e, r));
+  box = h.box;
+  count = h.count;
+  bound = h.bound;
+  letters = h.letters;
+  clauses = h.clauses;
+}
+
+pub says_fair : (e : Event) (a : Automaton) → IsSound a → length a.queue.items ≤ 64 → IsFair (says e a)
+says_fair e a h r = record {
+  queue_room = h.queue_room;
+  mailbox_room = h.mailbox_room;
+  waits = omega (arith, longer a.queue.items e, r);
+  box = h.box;
+  count = omega (arith, h.count);
+  bound = h.bound;
+  letters = h.letters;
+}
+
+-- as it looks where the query rests
+rested : (a : Automaton) (l : Look) (p : Pengine) → IsKept (record (view_of a) { look = l }) p → IsKept (view_of a) p
+rested a l p h = moved (record (view_of a) { look = l }) p (look_of a.state) p.state p.turn h
+
+pub stops_does : (a : Automaton) (k : Rest) (q : kept.Query) (r : Request) → k ≢ rest.Over → fit k r ≡ Stops →
+    Does (λ p. fits (spec_seen (view_of a)) p.state r p) (record (view_of a) { look = resting k (query_of q) }) (view_of (closed a.settings.destroys (says event.Stop a)))
+stops_does a k q r n e = record {
+  clauses = closed_clauses a.settings.destroys (says event.Stop a);
+  settings = closed_settings a.settings.destroys (says event.Stop a);
+  seen = λ p h.
+      subst (λ (z : Pengine). IsSeen (view_of (closed a.settings.destroys (says event.Stop a))) z)
+      (sym (fits_resting (spec_seen (view_of a)) k (query_of q) r p n h.look ∙ ap (λ f. fitted (spec_seen (view_of a)) (query_of q) r f p) e))
+      (closed_seen a.settings.destroys (says event.Stop a) (emits event.Stop p) (resting_turn k (query_of q) p.state p.turn h.look) (said (view_of a) p event.Stop (rested a (resting k (query_of q)) p h.kept)));
+}
+
+pub misfit_does : (a : Automaton) (k : Rest) (q : kept.Query) (r : Request) → k ≢ rest.Over → fit k r ≡ Misfit →
+    Does (λ p. fits (spec_seen (view_of a)) p.state r p) (record (view_of a) { look = resting k (query_of q) }) (view_of (record (says (event.Protocol (kind_of r)) a) { state = rests k q }))
+misfit_does a k q r n e = record {
+  clauses = refl;
+  settings = refl;
+  seen = λ p h.
+      subst (λ (z : Pengine). IsSeen (view_of (record (says (event.Protocol (kind_of r)) a) { state = rests k q })) z)
+      (sym (fits_resting (spec_seen (view_of a)) k (query_of q) r p n h.look ∙ ap (λ f. fitted (spec_seen (view_of a)) (query_of q) r f p) e))
+      (misfit_seen k q (event.Protocol (kind_of r)) a p h.look (rested a (resting k (query_of q)) p h.kept));
+}
+
+pub misfit_of : (f : Fit) → (f ≡ GoesOn → ⊥) → (f ≡ Stops → ⊥) → f ≡ Misfit
+misfit_of GoesOn n m = absurd (n refl)
+misfit_of Stops n m = absurd (m refl)
+misfit_of Misfit n m = refl
+
+-- Requests are consumed, one after the other
+
+pub record Settling (spec : Spec) (n : ℕ) (p : Pengine) (a : Automaton) (m : ℕ) : Type 0 where
+  pub next : Pengine
+  pub seen : IsSeen (view_of a) next
+  pub same : settled spec n p ≡ settled spec m next
+
+pub at_rest : (spec : Spec) (n m : ℕ) (p : Pengine) (a : Automaton) → Settling spec n p a m → (IsTrue (rests_now a.state) × (length a.queue.items < 64) → ⊥) → IsSeen (view_of a) (settled spec n p)
+at_rest spec n m p a h no =
+    subst (λ (z : Pengine). IsSeen (view_of a) z) (sym (h.same ∙ stays spec m h.next (closed_now (rests_now a.state) (length a.queue.items) (rests_as a.state h.next.state h.next.turn h.seen.look) (waits_as (view_of a) h.next h.seen.kept) no))) h.seen
+  where
+    tests : (b : Bool) (k : ℕ) → (IsTrue b × (k < 64) → ⊥) → b && nat_lt k most_waiting ≡ false
+    tests false k no = refl
+    tests true k no = go (nat_lt k 64) refl
+      where
+        go : (c : Bool) → nat_lt k 64 ≡ c → c ≡ false
+        go false e = refl
+        go true e = absurd (no (refl, ltb-true k 64 e))
+
+    closed_now : (b : Bool) (k : ℕ) → consumes_now h.next.state ≡ b → waiting h.next ≡ k → (IsTrue b × (k < 64) → ⊥) → consumes_now h.next.state && nat_lt (waiting h.next) most_waiting ≡ false
+    closed_now b k e w no = ap (λ z. z && nat_lt (waiting h.next) most_waiting) e ∙ ap (λ z. b && nat_lt z most_waiting) w ∙ tests b k no
+
+pub all_done : (spec : Spec) (n : ℕ) (p : Pengine) (a : Automaton) (m : ℕ) → Settling spec n p a m → m ≡ 0 → IsSeen (view_of a) (settled spec n p)
+all_done spec n p a m h e = subst (λ (z : Pengine). IsSeen (view_of a) z) (sym (h.same ∙ ap (λ k. settled spec k h.next) e ∙ settled_none spec h.next)) h.seen
+
+may_go : (a : Automaton) (p : Pengine) → IsSeen (view_of a) p → IsTrue (rests_now a.state) → length a.queue.items < 64 → consumes_now p.state && nat_lt (waiting p) most_waiting ≡ true
+may_go a p h r l = ap (λ z. z && nat_lt (waiting p) most_waiting) (rests_as a.state p.state p.turn h.look ∙ r) ∙ ap (λ z. nat_lt z most_waiting) (waits_as (view_of a) p h.kept) ∙ lt-ltb (length a.queue.items) 64 l
+
+pub consumed_one : (spec : Spec) (n m : ℕ) (p : Pengine) (a b : Automaton) (l : Letter) (ls : List Letter) → Settling spec n p a (suc m) → IsTrue (rests_now a.state) → length a.queue.items < 64 → a.mailbox.items ≡ l ∷ ls →
+    ((q : Pengine) → IsSeen (view_of (record a { mailbox = buffer ls a.mailbox.capacity })) q → IsSeen (view_of b) (fits spec q.state l.node q)) → Settling spec n p b m
+consumed_one spec n m p a b l ls h r k e d = record {
+  next = fits spec h.next.state l.node (record h.next { mailbox = requests_of ls; consumed = suc h.next.consumed });
+  seen = d (record h.next { mailbox = requests_of ls; consumed = suc h.next.consumed }) (opened_seen a l ls h.next e h.seen);
+  same = h.same ∙ goes spec m h.next (may_go a h.next h.seen r k) ∙ ap (settled spec m) (opened spec a l ls h.next e h.seen);
+}
+
+pub consumed_none : (spec : Spec) (n m : ℕ) (p : Pengine) (a : Automaton) → Settling spec n p a (suc m) → IsTrue (rests_now a.state) → length a.queue.items < 64 → a.mailbox.items ≡ [] → Settling spec n p a m
+consumed_none spec n m p a h r k e = record {
+  next = h.next;
+  seen = h.seen;
+  same = h.same ∙ goes spec m h.next (may_go a h.next h.seen r k) ∙ ap (settled spec m) (emptied spec a h.next e h.seen);
+}
+
+pub popped : {A : Type 0} (xs : List A) (x : A) → slice_get xs 0 ≡ Some x → xs ≡ x ∷ drop 1 xs
+popped [] x e = cc
+popped (y ∷ ys) x e = cc
+
+pub popped_none : {A : Type 0} (xs : List A) → slice_get xs 0 ≡ None → xs ≡ []
+popped_none [] e = refl
+popped_none (y ∷ ys) e = cc
+
+pub different : (b : Bool) → b ≡ false → b ≡ true → ⊥
+different true f t = cc
+different false f t = cc
+
+pub said_room : (a : Automaton) (e : Event) → length a.queue.items < 64 → length (says e a).queue.items ≤ 64
+said_room a e r = omega (arith, longer a.queue.items e, r)
+
+-- A destroy
+
+ended_all : (v : View) (p : Pengine) → IsKept v p → (d : List Event) → (q : Pengine) → q.emitted ≡ p.emitted ++ d → drop p.pulled q.emitted ≡ v.queue ++ d
+ended_all v p h d q e =
+    ap (λ (es : List Event). drop p.pulled es) (e ∙ ap (λ (es : List Event). es ++ d) h.emitted ∙ append_assoc h.before v.queue d)
+    ∙ ap (λ k. drop k (h.before ++ v.queue ++ d)) (sym h.handed) ∙ drop-append_seam h.before (v.queue ++ d)
+
+destroyed_emits : (s : at.State) (t : State) (o : Option ℕ) (p : Pengine) → IsLook (look_of s) t o → (destroyed_at t (struck p)).emitted ≡ p.emitted ++ last_of (look_of s)
+destroyed_emits at.Idle t o p l = ap (λ z. (destroyed_at z (struck p)).emitted) l.0
+destroyed_emits (at.Running q) t o p l = ap (λ z. (destroyed_at z (struck p)).emitted) l.0
+destroyed_emits (at.Out room further) t o p l = ap (λ z. (destroyed_at z (struck p)).emitted) l.0.1.0
+destroyed_emits (at.More q) t o p l = ap (λ z. (destroyed_at z (struck p)).emitted) l.0
+destroyed_emits (at.Prompting q) t o p l = ap (λ z. (destroyed_at z (struck p)).emitted) l.0
+destroyed_emits at.Ended t o p l = ap (λ z. (destroyed_at z (struck p)).emitted) l.0 ∙ sym (append-nil p.emitted)
+
+destroyed_box : (t : State) (p : Pengine) → (destroyed_at t (struck p)).mailbox ≡ []
+destroyed_box state.Idle p = refl
+destroyed_box (state.Running q) p = refl
+destroyed_box (state.More q) p = refl
+destroyed_box (state.Prompting q) p = refl
+destroyed_box state.Ended p = refl
+
+pub destroyed : (a : Automaton) (p : Pengine) → IsSeen (view_of a) p → drop p.pulled (after_entry (spec_seen (view_of a)) Destroy p).emitted ≡ a.queue.items ++ last_of (look_of a.state)
+destroyed a p h =
+    let q : Pengine = handed_out (destroyed_at p.state (struck p)) in
+    let n : settled (spec_seen (view_of a)) (length q.mailbox) q ≡ q = ap (λ (ms : List Request). settled (spec_seen (view_of a)) (length ms) q) (destroyed_box p.state p) ∙ settled_none (spec_seen (view_of a)) q in
+    ap (λ (z : Pengine). drop p.pulled z.emitted) n
+    ∙ ended_all (view_of a) p h.kept (last_of (look_of a.state)) (destroyed_at p.state (struck p)) (destroyed_emits a.state p.state p.turn p h.look)

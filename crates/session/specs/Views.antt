@@ -121,8 +121,8 @@ pub record IsPresent (v : View) (t : TurnView) (room further : ℕ) : Type 0 whe
   pub settings : t.settings ≡ v.settings
   pub steps : t.steps ≡ v.steps
   pub events : t.events ≡ v.events
-  pub room : t.room ≡ room
-  pub further : length t.query.requests ≡ further
+  pub has_room : t.room ≡ room
+  pub requests : length t.query.requests ≡ further
 
 -- The turn that is given back is one of this pengine's, and has gone. Where its number is that of the query that is out, it is that query's turn.
 pub record IsTurnOf (v : View) (t : TurnView) : Type 0 where

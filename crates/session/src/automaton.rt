@@ -1,13 +1,13 @@
 // A pengine as it is kept, entry by entry.
 ghost use Rattle.std.specs.Prelude.{◌≡◌, ◌≢◌, ◌+◌, ◌-◌, ◌<◌, ◌≤◌, ◌^◌, false, List as list, [], ◌∷◌, ◌++◌, map, length, Some, IfSome, IfNone, OnSome, IfOk, OnOk, OnErr, IsTrue, ◌↔◌};
 ghost use Rattle.event_core.specs.declared.event.Event.{Event};
-ghost use Rattle.event_core.specs.declared.rest.Rest.TheVariants as rest;
+ghost use Rattle.event_core.specs.declared.rest.Rest.TheVariants as ending;
 ghost use Rattle.circular_buffer.specs.Buffer.{buffer};
 ghost use Rattle.session.specs.declared.state.State.TheVariants as at;
 ghost use Rattle.session.specs.declared.answers.Given.TheVariants as given;
 ghost use Rattle.session.specs.TurnsKept.{Keeps};
 ghost use Rattle.session.specs.Views as view;
-ghost use Rattle.session.specs.After.{begins, fits, settled, made, Sent, Pulled, Abort, Given};
+ghost use Rattle.session.specs.After.{begins, fits, settled, made, Sent, Pulled, Abort, Given as GivenBack};
 ghost use Rattle.session.specs.Answers.{takes, is_turn, last_of, gives};
 ghost use Rattle.session.specs.Views.{spec_seen, turn_at, taken, IsSeen, Does, Enters, IsTurnOf};
 ghost use Rattle.session.specs.Kept.{query_of, look_of, view_of, resting, rests, rests_now, further_of, IsLetter, IsSound, IsBack, Turns, says, closed};
@@ -168,7 +168,7 @@ impl Automaton {
     fn consume_resting(&mut self, query: Query, rest: Rest, letter: Letter)
         requires sound { IsSound self.old }
         requires idle { self.old.state ≡ at.Idle }
-        requires rests { rest ≢ rest.Over }
+        requires rests { rest ≢ ending.Over }
         requires room { length self.old.queue.items < 64 }
         requires counted { self.old.number + length query.requests + length self.old.mailbox.items < self.old.accepted }
         requires clauses { query.program.value ≡ self.old.program.value }
@@ -414,7 +414,7 @@ impl Automaton {
         ensures sound { IsSound self.new }
         ensures answer { result ≡ gives (view_of self.old) turn.number }
         ensures kept { (g : view.Gone) → result ≡ given.Kept → turn.gone ≡ Some g → Keeps (view_of self.old) turn g (view_of self.new) }
-        ensures dropped { (g : view.Gone) → result ≡ given.Dropped → turn.gone ≡ Some g → Enters (Given turn.number g.steps (length g.events) g.starved false) (view_of self.old) (view_of self.new) }
+        ensures dropped { (g : view.Gone) → result ≡ given.Dropped → turn.gone ≡ Some g → Enters (GivenBack turn.number g.steps (length g.events) g.starved false) (view_of self.old) (view_of self.new) }
     {
         let is_out = matches!(self.state, State::Out { .. });
         if !is_out || turn.number != self.number {

@@ -1,5 +1,5 @@
 // Stands for what event_core is to have.
-ghost use Rattle.std.specs.Prelude.{◌≡◌, ◌<◌, min, All, IfOk, MatchOption};
+ghost use Rattle.std.specs.Prelude.{◌≡◌, ◌<◌, ◌≤◌, min, All, IfOk, MatchOption};
 ghost use Rattle.event_core.specs.declared.settings.Settings.{Settings};
 ghost use Rattle.event_core.specs.Standing.{spec_of};
 ghost use Rattle.session.specs.Reaching.{IsBegun, IsWhole};

@@ -1,5 +1,5 @@
-ghost use Rattle.std.specs.Prelude.{◌≡◌, ◌≢◌, ◌+◌, ◌<◌, ◌≤◌, ◌^◌, [], length, take, drop, None, Some, IfOk, if◌then◌else◌};
-ghost use Rattle.session.specs.Views.{Gone};
+ghost use Rattle.std.specs.Prelude.{◌≡◌, ◌≢◌, ◌+◌, ◌<◌, ◌≤◌, ◌^◌, [], length, take, drop, None, Some, true, IfOk, if◌then◌else◌};
+ghost use Rattle.session.specs.Views as view;
 ghost use Rattle.session.specs.TurnsKept.{Goes};
 
 use crate::made::Made;
@@ -128,7 +128,7 @@ impl Turn {
 
     /// Its steps, its events without `memory`, and whether it ended by want of memory; of a turn that has gone.
     pub fn counts(&self) -> (u64, u64, bool)
-        ensures { (g : Gone) → self.now.gone ≡ Some g → result ≡ (g.steps, length g.events, g.starved) }
+        ensures { (g : view.Gone) → self.now.gone ≡ Some g → result ≡ (g.steps, length g.events, g.starved) }
     {
         match &self.gone {
             Some(gone) => (gone.steps, gone.events.len() as u64, gone.starved),
