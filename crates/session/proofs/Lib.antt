@@ -5,4 +5,3 @@ pub mod Room
 mod Rows
 pub mod Schedule
 pub mod Seen
-pub mod Turning

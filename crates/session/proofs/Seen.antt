@@ -1,7 +1,8 @@
 -- What the code does to a pengine, and what the definition does, look the same.
-use Rattle.std.proofs.Common.{◌≡◌, ◌≢◌, ℕ, zero, suc, ◌+◌, ◌-◌, ◌≤◌, ◌<◌, ◌^◌, min, Bool, true, false, ◌&&◌, List, [], ◌∷◌, ◌++◌, map, length, drop, slice_get, nat_lt, Option, Some, None, All, refl, ap, sym, subst, ◌∙◌, append_assoc, append-nil, length-append, IsTrue, arith}
+use Rattle.std.proofs.Common.{◌≡◌, ◌≢◌, ℕ, zero, suc, ◌+◌, ◌-◌, ◌≤◌, ◌<◌, ◌^◌, min, Bool, true, false, ◌&&◌, List, [], ◌∷◌, ◌++◌, map, length, drop, slice_get, nat_lt, nat_le, if◌then◌else◌, Option, Some, None, All, refl, ap, sym, subst, ◌∙◌, append_assoc, append-nil, length-append, IsTrue, arith}
 use Rattle.std.proofs.Math.Seq.{drop-append_seam}
-use Rattle.std.proofs.lemmas.List.{map-append}
+use Rattle.std.proofs.lemmas.List.{map-append, length-map}
+use Rattle.std.proofs.lemmas.List.Elements.{All-push, All-nil}
 use Rattle.std.proofs.lemmas.Bool.{ltb-true, lt-ltb}
 use Rattle.circular_buffer.specs.Buffer.{buffer}
 use Rattle.term_core.specs.Tree.{Tree}
@@ -21,14 +22,14 @@ use Rattle.event_core.specs.Full.{Spec, Query, part_of, events_of, span}
 use Rattle.session.specs.declared.query.Query as kept
 use Rattle.session.specs.declared.turn.Gone as kept_turn
 use Rattle.session.specs.declared.letter.Letter.{Letter}
-use Rattle.session.specs.declared.state.State as at
+use Rattle.session.specs.declared.state.State.{State as Place}
 use Rattle.session.specs.declared.state.State.TheVariants as at
 use Rattle.session.specs.declared.automaton.Automaton.{Automaton}
 use Rattle.session.specs.After as state
-use Rattle.session.specs.After.{State, Pengine, waiting, emits, ends, begins, fits, first_consumed, consumes_now, settled, aborted_at, destroyed_at, handed_out, struck, most_waiting, after_entry, Taken, Destroy}
+use Rattle.session.specs.After.{State, Pengine, waiting, emits, ends, begins, fits, first_consumed, consumes_now, settled, aborted_at, destroyed_at, handed_out, rest_at, advances, turned_at, struck, most_waiting, after_entry, Taken, Destroy}
 use Rattle.session.specs.Views.{Look, Idle, Running, Out, More, Prompting, Ended, View, IsLook, IsKept, IsSeen, spec_seen, Does, Enters, out, taken}
 use Rattle.session.specs.Answers.{is_turn, takes, takes_at, last_of}
-use Rattle.session.specs.Kept.{query_of, look_of, requests_of, view_of, resting, rests, rests_now, places, further_of, IsOver, IsLetter, IsSound, Tells, says, closed}
+use Rattle.session.specs.Kept.{query_of, look_of, requests_of, view_of, resting, rests, rests_now, MayWait, further_of, IsOver, IsLetter, IsSound, IsBack, Tells, Turns, says, closed}
 
 -- one event more
 pub said : (v : View) (p : Pengine) (e : Event) → IsKept v p → IsKept (record v { queue = v.queue ++ e ∷ [] }) (emits e p)
@@ -100,7 +101,7 @@ closed_sound true a h = record {
   box = omega arith;
   count = omega (arith, h.count);
   bound = h.bound;
-  letters = tt;
+  letters = All-nil (IsLetter a.program.value a.settings);
   clauses = tt;
 }
 closed_sound false a h = record {
@@ -225,10 +226,10 @@ stays spec (suc n) p e = unfolded spec n p false e
 pub goes : (spec : Spec) (n : ℕ) (p : Pengine) → consumes_now p.state && nat_lt (waiting p) most_waiting ≡ true → settled spec (suc n) p ≡ settled spec n (first_consumed spec p.mailbox p)
 goes spec n p e = unfolded spec n p true e
 
-pub rests_as : (s : at.State) (t : State) (o : Option ℕ) → IsLook (look_of s) t o → consumes_now t ≡ rests_now s
+pub rests_as : (s : Place) (t : State) (o : Option ℕ) → IsLook (look_of s) t o → consumes_now t ≡ rests_now s
 rests_as at.Idle t o l = ap consumes_now l.0
 rests_as (at.Running q) t o l = ap consumes_now l.0
-rests_as (at.Out room further) t o l = ap consumes_now l.0.1.0
+rests_as (at.Out room further) t o l = ap consumes_now l.0.1
 rests_as (at.More q) t o l = ap consumes_now l.0
 rests_as (at.Prompting q) t o l = ap consumes_now l.0
 rests_as at.Ended t o l = ap consumes_now l.0
@@ -275,15 +276,15 @@ struck_kept a p h = record {
 }
 
 -- where a query runs or rests
-abbrev pub IsBusy : at.State → Type 0
+abbrev pub IsBusy : Place → Type 0
 IsBusy at.Idle = ⊥
 IsBusy at.Ended = ⊥
 IsBusy s = Unit {0}
 
-pub breaks_off : (spec : Spec) (s : at.State) (t : State) (o : Option ℕ) (p : Pengine) → IsBusy s → IsLook (look_of s) t o → aborted_at spec t p ≡ ends spec.destroys (emits event.Abort p)
+pub breaks_off : (spec : Spec) (s : Place) (t : State) (o : Option ℕ) (p : Pengine) → IsBusy s → IsLook (look_of s) t o → aborted_at spec t p ≡ ends spec.destroys (emits event.Abort p)
 breaks_off spec at.Idle t o p b l = absurd b
 breaks_off spec (at.Running q) t o p b l = ap (λ z. aborted_at spec z p) l.0
-breaks_off spec (at.Out room further) t o p b l = ap (λ z. aborted_at spec z p) l.0.1.0
+breaks_off spec (at.Out room further) t o p b l = ap (λ z. aborted_at spec z p) l.0.1
 breaks_off spec (at.More q) t o p b l = ap (λ z. aborted_at spec z p) l.0
 breaks_off spec (at.Prompting q) t o p b l = ap (λ z. aborted_at spec z p) l.0
 breaks_off spec at.Ended t o p b l = absurd b
@@ -348,10 +349,6 @@ sent_seen a l n p h = record {
   };
 }
 
-letters_more : (cs : List Clause) (s : Settings) (ls : List Letter) (l : Letter) → All (IsLetter cs s) ls → IsLetter cs s l → All (IsLetter cs s) (ls ++ l ∷ [])
-letters_more cs s [] l h k = (k, tt)
-letters_more cs s (x ∷ ls) l h k = (h.0, letters_more cs s ls l h.1 k)
-
 pub sent_sound : (a : Automaton) (l : Letter) → IsSound a → length a.mailbox.items < 64 → a.accepted < 2 ^ 62 → IsLetter a.program.value a.settings l → IsSound (record a { mailbox = buffer (a.mailbox.items ++ l ∷ []) a.mailbox.capacity; accepted = a.accepted + 1 })
 sent_sound a l h r b k =
     let m : length (a.mailbox.items ++ l ∷ []) ≡ suc (length a.mailbox.items) = longer a.mailbox.items l in
@@ -362,7 +359,7 @@ sent_sound a l h r b k =
       box = omega (arith, m, r);
       count = omega (arith, m, h.count);
       bound = omega (arith, b);
-      letters = letters_more a.program.value a.settings a.mailbox.items l h.letters k;
+      letters = All-push (IsLetter a.program.value a.settings) a.mailbox.items l h.letters k;
       clauses = h.clauses;
     }
 
@@ -386,7 +383,7 @@ gave_kept spec q g a p t h =
       pulled = h.pulled;
       before = h.before;
       handed = h.handed;
-      emitted = ap (λ es. es ++ span spec q p.events (p.events + length g.events)) h.emitted ∙ append_assoc h.before a.queue.items (span spec q p.events (p.events + length g.events)) ∙ ap (λ es. h.before ++ a.queue.items ++ es) (sym m);
+      emitted = ap (λ es. es ++ span spec q p.events (p.events + length g.events)) h.emitted ∙ append_assoc h.before a.queue.items (span spec q p.events (p.events + length g.events)) ∙ ap (λ es. h.before ++ (a.queue.items ++ es)) (sym m);
     }
 
 -- What the calls of the code do
@@ -399,7 +396,7 @@ closed_settings : (b : Bool) (a : Automaton) → (view_of (closed b a)).settings
 closed_settings true a = refl
 closed_settings false a = refl
 
-idle_turn : (s : at.State) (t : State) (o : Option ℕ) → s ≡ at.Idle → IsLook (look_of s) t o → (t ≡ state.Idle) × (o ≡ None)
+idle_turn : (s : Place) (t : State) (o : Option ℕ) → s ≡ at.Idle → IsLook (look_of s) t o → (t ≡ state.Idle) × (o ≡ None)
 idle_turn s t o e l = subst (λ z. IsLook (look_of z) t o) e l
 
 pub refused_does : (a : Automaton) (ask : Ask) (t : Tree) → a.state ≡ at.Idle → Does (begins (spec_seen (view_of a)) ask (Some t)) (view_of a) (view_of (closed a.settings.destroys (says (event.Error t) (counted a))))
@@ -429,7 +426,7 @@ pub says_sound : (e : Event) (a : Automaton) → IsSound a → a.state ≡ at.Id
 says_sound e a h i r = record {
   queue_room = h.queue_room;
   mailbox_room = h.mailbox_room;
-  waits = subst (λ z. length (a.queue.items ++ e ∷ []) ≤ places z) (sym i) (omega (arith, longer a.queue.items e, r));
+  waits = subst (λ z. MayWait z (length (a.queue.items ++ e ∷ []))) (sym i) (omega (arith, longer a.queue.items e, r));
   box = h.box;
   count = h.count;
   bound = h.bound;
@@ -487,19 +484,19 @@ pub record Settling (spec : Spec) (n : ℕ) (p : Pengine) (a : Automaton) (m : �
   pub same : settled spec n p ≡ settled spec m next
 
 pub at_rest : (spec : Spec) (n m : ℕ) (p : Pengine) (a : Automaton) → Settling spec n p a m → (IsTrue (rests_now a.state) × (length a.queue.items < 64) → ⊥) → IsSeen (view_of a) (settled spec n p)
-at_rest spec n m p a h no =
-    subst (λ (z : Pengine). IsSeen (view_of a) z) (sym (h.same ∙ stays spec m h.next (closed_now (rests_now a.state) (length a.queue.items) (rests_as a.state h.next.state h.next.turn h.seen.look) (waits_as (view_of a) h.next h.seen.kept) no))) h.seen
+at_rest spec n m p a h idle =
+    subst (λ (z : Pengine). IsSeen (view_of a) z) (sym (h.same ∙ stays spec m h.next (closed_now (rests_now a.state) (length a.queue.items) (rests_as a.state h.next.state h.next.turn h.seen.look) (waits_as (view_of a) h.next h.seen.kept) idle))) h.seen
   where
     tests : (b : Bool) (k : ℕ) → (IsTrue b × (k < 64) → ⊥) → b && nat_lt k most_waiting ≡ false
-    tests false k no = refl
-    tests true k no = go (nat_lt k 64) refl
+    tests false k idle = refl
+    tests true k idle = go (nat_lt k 64) refl
       where
         go : (c : Bool) → nat_lt k 64 ≡ c → c ≡ false
         go false e = refl
-        go true e = absurd (no (refl, ltb-true k 64 e))
+        go true e = absurd (idle (refl, ltb-true k 64 e))
 
     closed_now : (b : Bool) (k : ℕ) → consumes_now h.next.state ≡ b → waiting h.next ≡ k → (IsTrue b × (k < 64) → ⊥) → consumes_now h.next.state && nat_lt (waiting h.next) most_waiting ≡ false
-    closed_now b k e w no = ap (λ z. z && nat_lt (waiting h.next) most_waiting) e ∙ ap (λ z. b && nat_lt z most_waiting) w ∙ tests b k no
+    closed_now b k e w idle = ap (λ z. z && nat_lt (waiting h.next) most_waiting) e ∙ ap (λ z. b && nat_lt z most_waiting) w ∙ tests b k idle
 
 pub all_done : (spec : Spec) (n : ℕ) (p : Pengine) (a : Automaton) (m : ℕ) → Settling spec n p a m → m ≡ 0 → IsSeen (view_of a) (settled spec n p)
 all_done spec n p a m h e = subst (λ (z : Pengine). IsSeen (view_of a) z) (sym (h.same ∙ ap (λ k. settled spec k h.next) e ∙ settled_none spec h.next)) h.seen
@@ -537,17 +534,23 @@ different false f t = cc
 pub said_room : (a : Automaton) (e : Event) → length a.queue.items < 64 → length (says e a).queue.items ≤ 64
 said_room a e r = omega (arith, longer a.queue.items e, r)
 
+pub said_most : (a : Automaton) (e : Event) → length a.queue.items ≤ 64 → length (says e a).queue.items ≤ 65
+said_most a e r = omega (arith, longer a.queue.items e, r)
+
+pub fair_more : (e : Event) (a : Automaton) → IsFair a → length a.queue.items ≤ 64 → IsFair (says e a)
+fair_more e a h r = record { queue_room = h.queue_room; mailbox_room = h.mailbox_room; waits = said_most a e r; box = h.box; count = h.count; bound = h.bound; letters = h.letters }
+
 -- A destroy
 
 ended_all : (v : View) (p : Pengine) → IsKept v p → (d : List Event) → (q : Pengine) → q.emitted ≡ p.emitted ++ d → drop p.pulled q.emitted ≡ v.queue ++ d
 ended_all v p h d q e =
     ap (λ (es : List Event). drop p.pulled es) (e ∙ ap (λ (es : List Event). es ++ d) h.emitted ∙ append_assoc h.before v.queue d)
-    ∙ ap (λ k. drop k (h.before ++ v.queue ++ d)) (sym h.handed) ∙ drop-append_seam h.before (v.queue ++ d)
+    ∙ ap (λ k. drop k (h.before ++ (v.queue ++ d))) (sym h.handed) ∙ drop-append_seam h.before (v.queue ++ d)
 
-destroyed_emits : (s : at.State) (t : State) (o : Option ℕ) (p : Pengine) → IsLook (look_of s) t o → (destroyed_at t (struck p)).emitted ≡ p.emitted ++ last_of (look_of s)
+destroyed_emits : (s : Place) (t : State) (o : Option ℕ) (p : Pengine) → IsLook (look_of s) t o → (destroyed_at t (struck p)).emitted ≡ p.emitted ++ last_of (look_of s)
 destroyed_emits at.Idle t o p l = ap (λ z. (destroyed_at z (struck p)).emitted) l.0
 destroyed_emits (at.Running q) t o p l = ap (λ z. (destroyed_at z (struck p)).emitted) l.0
-destroyed_emits (at.Out room further) t o p l = ap (λ z. (destroyed_at z (struck p)).emitted) l.0.1.0
+destroyed_emits (at.Out room further) t o p l = ap (λ z. (destroyed_at z (struck p)).emitted) l.0.1
 destroyed_emits (at.More q) t o p l = ap (λ z. (destroyed_at z (struck p)).emitted) l.0
 destroyed_emits (at.Prompting q) t o p l = ap (λ z. (destroyed_at z (struck p)).emitted) l.0
 destroyed_emits at.Ended t o p l = ap (λ z. (destroyed_at z (struck p)).emitted) l.0 ∙ sym (append-nil p.emitted)
@@ -565,3 +568,111 @@ destroyed a p h =
     let n : settled (spec_seen (view_of a)) (length q.mailbox) q ≡ q = ap (λ (ms : List Request). settled (spec_seen (view_of a)) (length ms) q) (destroyed_box p.state p) ∙ settled_none (spec_seen (view_of a)) q in
     ap (λ (z : Pengine). drop p.pulled z.emitted) n
     ∙ ended_all (view_of a) p h.kept (last_of (look_of a.state)) (destroyed_at p.state (struck p)) (destroyed_emits a.state p.state p.turn p h.look)
+
+-- What keeping a turn does
+
+pub advanced_room : (a : Automaton) (q : kept.Query) (g : kept_turn.Gone) → IsSound a → IsBack a q g → length (advanced g a).queue.items ≤ 64
+advanced_room a q g h b =
+    let k : length (a.queue.items ++ map (λ x. x.1) g.events) ≡ length a.queue.items + length g.events = length-append a.queue.items (map (λ x. x.1) g.events) ∙ ap (λ n. length a.queue.items + n) (length-map g.events (λ x. x.1)) in
+    let w : length a.queue.items + b.room ≤ 64 = subst (λ z. MayWait z (length a.queue.items)) b.is_out h.waits in
+    omega (arith, k, w, b.events)
+
+pub advanced_fair : (a : Automaton) (q : kept.Query) (g : kept_turn.Gone) → IsSound a → IsBack a q g → IsFair (advanced g a)
+advanced_fair a q g h b = record {
+  queue_room = h.queue_room;
+  mailbox_room = h.mailbox_room;
+  waits = (let k : length (advanced g a).queue.items ≤ 64 = advanced_room a q g h b in omega (arith, k));
+  box = h.box;
+  count = omega (arith, h.count);
+  bound = h.bound;
+  letters = h.letters;
+}
+
+pub advanced_count : (a : Automaton) (q : kept.Query) (g : kept_turn.Gone) → IsSound a → IsBack a q g → a.number + length q.requests + length a.mailbox.items ≤ a.accepted
+advanced_count a q g h b =
+    let c : a.number + b.further + length a.mailbox.items ≤ a.accepted = subst (λ z. a.number + further_of z + length a.mailbox.items ≤ a.accepted) b.is_out h.count in
+    omega (arith, c, b.requests)
+
+pub running_sound : (q : kept.Query) (a : Automaton) → IsFair a → length a.queue.items ≤ 64 → a.number + length q.requests + length a.mailbox.items ≤ a.accepted → q.program.value ≡ a.program.value → IsSound (record a { state = at.Running q })
+running_sound q a h w n c = record { queue_room = h.queue_room; mailbox_room = h.mailbox_room; waits = w; box = h.box; count = n; bound = h.bound; letters = h.letters; clauses = c }
+
+turned_is : (spec : Spec) (q : Query) (g : kept_turn.Gone) (s : State) (p : Pengine) → s ≡ state.Running q → turned_at spec g.steps (length g.events) g.starved s p ≡ advances spec q (p.steps + g.steps) (p.events + length g.events) g.starved p
+turned_is spec q g s p e = ap (λ z. turned_at spec g.steps (length g.events) g.starved z p) e
+
+back_kept : (a : Automaton) (p : Pengine) → IsKept (view_of a) p → IsKept (view_of a) (record p { turn = None })
+back_kept a p h = moved (view_of a) p (look_of a.state) p.state None h
+
+pub starved_turns : (a : Automaton) (q : kept.Query) (g : kept_turn.Gone) → g.starved ≡ true → Turns q g (view_of a) (view_of (closed a.settings.destroys (says event.Memory (advanced g a))))
+starved_turns a q g e = record {
+  clauses = closed_clauses a.settings.destroys (says event.Memory (advanced g a));
+  settings = closed_settings a.settings.destroys (says event.Memory (advanced g a));
+  seen = λ p s t h.
+      let spec : Spec = spec_seen (view_of a) in
+      let r : Pengine = gave spec (query_of q) g (record p { turn = None }) in
+      subst (λ (z : Pengine). IsSeen (view_of (closed a.settings.destroys (says event.Memory (advanced g a)))) z)
+      (sym (turned_is spec (query_of q) g p.state (record p { turn = None }) s ∙ ap (λ b. advances spec (query_of q) (p.steps + g.steps) (p.events + length g.events) b (record p { turn = None })) e))
+      (closed_seen a.settings.destroys (says event.Memory (advanced g a)) (emits event.Memory r) refl
+      (said (view_of (advanced g a)) r event.Memory (gave_kept spec (query_of q) g a (record p { turn = None }) t (back_kept a p h.kept))));
+}
+
+-- where the query rests, or that it goes on
+abbrev pub rested_at : Spec → Query → Option Rest → Pengine → Pengine
+rested_at spec q None p = p
+rested_at spec q (Some k) p = rest_at spec q k p
+
+fed_is : (spec : Spec) (q : Query) (g : kept_turn.Gone) (k : ℕ) (p : Pengine) → Tells spec q k g → k ≡ p.events → g.starved ≡ false →
+    advances spec q (p.steps + g.steps) (p.events + length g.events) g.starved p ≡ rested_at spec q g.rest (gave spec q g p)
+fed_is spec q g k p t e f =
+    ap (λ b. advances spec q (p.steps + g.steps) (p.events + length g.events) b p) f
+    ∙ chosen (nat_le (length (events_of spec q)) (p.events + length g.events))
+    ∙ ap (λ o. rested_at spec q o (gave spec q g p)) (sym (t.rest f ∙ ap (λ n. if nat_le (length (events_of spec q)) (n + length g.events) then Some (part_of spec q).rest else None) e))
+  where
+    chosen : (b : Bool) → (if b then rest_at spec q (part_of spec q).rest (gave spec q g p) else gave spec q g p) ≡ rested_at spec q (if b then Some (part_of spec q).rest else None) (gave spec q g p)
+    chosen true = refl
+    chosen false = refl
+
+module _ (a : Automaton) (q : kept.Query) (g : kept_turn.Gone) (f : g.starved ≡ false) where
+  abbrev back : Pengine → Pengine
+  back p = gave (spec_seen (view_of a)) (query_of q) g (record p { turn = None })
+
+  fed : (o : Option Rest) → g.rest ≡ o → (p : Pengine) → p.state ≡ state.Running (query_of q) → Tells (spec_seen (view_of a)) (query_of q) a.events g → IsSeen (view_of a) p →
+      turned_at (spec_seen (view_of a)) g.steps (length g.events) g.starved p.state (record p { turn = None }) ≡ rested_at (spec_seen (view_of a)) (query_of q) o (back p)
+  fed o e p s t h =
+      turned_is (spec_seen (view_of a)) (query_of q) g p.state (record p { turn = None }) s
+      ∙ fed_is (spec_seen (view_of a)) (query_of q) g a.events (record p { turn = None }) t h.kept.events f
+      ∙ ap (λ z. rested_at (spec_seen (view_of a)) (query_of q) z (back p)) e
+
+  back_seen : (p : Pengine) → Tells (spec_seen (view_of a)) (query_of q) a.events g → IsSeen (view_of a) p → IsKept (view_of (advanced g a)) (back p)
+  back_seen p t h = gave_kept (spec_seen (view_of a)) (query_of q) g a (record p { turn = None }) t (back_kept a p h.kept)
+
+  pub runs_on : g.rest ≡ None → Turns q g (view_of a) (view_of (record (advanced g a) { state = at.Running q }))
+  runs_on e = record {
+    clauses = refl;
+    settings = refl;
+    seen = λ p s t h. subst (λ (z : Pengine). IsSeen (view_of (record (advanced g a) { state = at.Running q })) z) (sym (fed None e p s t h))
+        (record { look = (s, refl); kept = moved (view_of (advanced g a)) (back p) (Running (query_of q)) p.state None (back_seen p t h) });
+  }
+
+  pub rests_more : g.rest ≡ Some rest.More → Turns q g (view_of a) (view_of (record (advanced g a) { state = at.More q }))
+  rests_more e = record {
+    clauses = refl;
+    settings = refl;
+    seen = λ p s t h. subst (λ (z : Pengine). IsSeen (view_of (record (advanced g a) { state = at.More q })) z) (sym (fed (Some rest.More) e p s t h))
+        (record { look = (refl, refl); kept = moved (view_of (advanced g a)) (back p) (More (query_of q)) (state.More (query_of q)) None (back_seen p t h) });
+  }
+
+  pub rests_prompting : g.rest ≡ Some rest.Prompting → Turns q g (view_of a) (view_of (record (advanced g a) { state = at.Prompting q }))
+  rests_prompting e = record {
+    clauses = refl;
+    settings = refl;
+    seen = λ p s t h. subst (λ (z : Pengine). IsSeen (view_of (record (advanced g a) { state = at.Prompting q })) z) (sym (fed (Some rest.Prompting) e p s t h))
+        (record { look = (refl, refl); kept = moved (view_of (advanced g a)) (back p) (Prompting (query_of q)) (state.Prompting (query_of q)) None (back_seen p t h) });
+  }
+
+  pub over : g.rest ≡ Some rest.Over → Turns q g (view_of a) (view_of (closed a.settings.destroys (advanced g a)))
+  over e = record {
+    clauses = closed_clauses a.settings.destroys (advanced g a);
+    settings = closed_settings a.settings.destroys (advanced g a);
+    seen = λ p s t h. subst (λ (z : Pengine). IsSeen (view_of (closed a.settings.destroys (advanced g a))) z) (sym (fed (Some rest.Over) e p s t h))
+        (closed_seen a.settings.destroys (advanced g a) (back p) refl (back_seen p t h));
+  }

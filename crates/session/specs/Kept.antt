@@ -1,5 +1,5 @@
 -- How a pengine is kept.
-use Rattle.std.specs.Prelude.{◌≡◌, ℕ, ◌+◌, ◌-◌, ◌^◌, ◌≤◌, ◌<◌, Bool, true, false, if◌then◌else◌, nat_le, take, drop, List, [], ◌∷◌, ◌++◌, map, length, Option, Some, None, All}
+use Rattle.std.specs.Prelude.{◌≡◌, ℕ, ◌+◌, ◌^◌, ◌≤◌, ◌<◌, Bool, true, false, if◌then◌else◌, nat_le, take, drop, List, [], ◌∷◌, ◌++◌, map, length, Option, Some, None, All}
 use Rattle.circular_buffer.specs.Buffer.{buffer}
 use Rattle.term_core.specs.Tree.{Tree}
 use Rattle.program.specs.Clauses.{Clause}
@@ -78,14 +78,14 @@ rests_now (state.More q) = true
 rests_now (state.Prompting q) = true
 rests_now state.Ended = false
 
--- how many events may wait: a turn that is out has its room
-abbrev pub places : State → ℕ
-places state.Idle = 65
-places (state.Running q) = 64
-places (state.Out room further) = 64 - room
-places (state.More q) = 64
-places (state.Prompting q) = 64
-places state.Ended = 66
+-- so many events may wait: a turn that is out has its room
+abbrev pub MayWait : State → ℕ → Type 0
+MayWait state.Idle n = n ≤ 65
+MayWait (state.Running q) n = n ≤ 64
+MayWait (state.Out room further) n = n + room ≤ 64
+MayWait (state.More q) n = n ≤ 64
+MayWait (state.Prompting q) n = n ≤ 64
+MayWait state.Ended n = n ≤ 66
 
 -- how many requests the query has after its ask
 abbrev pub further_of : State → ℕ
@@ -109,7 +109,7 @@ IsOver cs state.Ended = Unit {0}
 pub record IsSound (a : Automaton) : Type 0 where
   pub queue_room : a.queue.capacity ≡ 66
   pub mailbox_room : a.mailbox.capacity ≡ 64
-  pub waits : length a.queue.items ≤ places a.state
+  pub waits : MayWait a.state (length a.queue.items)
   pub box : length a.mailbox.items ≤ 64
   pub count : a.number + further_of a.state + length a.mailbox.items ≤ a.accepted
   pub bound : a.accepted ≤ 2 ^ 62

@@ -402,8 +402,9 @@ impl Automaton {
         }
         match rest {
             None => self.state = State::Running(query),
+            Some(Rest::More) => self.state = State::More(query),
+            Some(Rest::Prompting) => self.state = State::Prompting(query),
             Some(Rest::Over) => self.end(),
-            Some(rest) => self.rest(query, rest),
         }
     }
 
