@@ -2,7 +2,7 @@
 use Rattle.std.proofs.Common.{◌≡◌, ◌≢◌, ℕ, zero, suc, ◌+◌, ◌-◌, ◌≤◌, ◌<◌, ◌^◌, min, Bool, true, false, ◌&&◌, List, [], ◌∷◌, ◌++◌, map, length, drop, slice_get, nat_lt, nat_le, if◌then◌else◌, Option, Some, None, All, refl, ap, sym, subst, ◌∙◌, append_assoc, append-nil, length-append, IsTrue, arith}
 use Rattle.std.proofs.Math.Seq.{drop-append_seam}
 use Rattle.std.proofs.lemmas.List.{map-append, length-map}
-use Rattle.std.proofs.lemmas.List.Elements.{All-push, All-nil}
+use Rattle.std.proofs.lemmas.List.Elements.{All-push, All-nil, All-rest, All-head, All-drop}
 use Rattle.std.proofs.lemmas.Bool.{ltb-true, lt-ltb}
 use Rattle.circular_buffer.specs.Buffer.{buffer}
 use Rattle.term_core.specs.Tree.{Tree}
@@ -18,6 +18,7 @@ use Rattle.event_core.specs.declared.rest.Rest.TheVariants as rest
 use Rattle.event_core.specs.Requests.{kind_of, fit}
 use Rattle.program.specs.Clauses.{Clause}
 use Rattle.event_core.specs.declared.settings.Settings.{Settings}
+use Rattle.event_core.specs.Standing.{spec_of}
 use Rattle.event_core.specs.Full.{Spec, Query, part_of, events_of, span}
 use Rattle.session.specs.declared.query.Query as kept
 use Rattle.session.specs.declared.turn.Gone as kept_turn
@@ -26,10 +27,10 @@ use Rattle.session.specs.declared.state.State.{State as Place}
 use Rattle.session.specs.declared.state.State.TheVariants as at
 use Rattle.session.specs.declared.automaton.Automaton.{Automaton}
 use Rattle.session.specs.After as state
-use Rattle.session.specs.After.{State, Pengine, waiting, emits, ends, begins, fits, first_consumed, consumes_now, settled, aborted_at, destroyed_at, handed_out, rest_at, advances, turned_at, struck, most_waiting, after_entry, Taken, Destroy}
+use Rattle.session.specs.After.{State, Pengine, waiting, emits, ends, begins, fits, first_consumed, consumes_now, settled, aborted_at, destroyed_at, handed_out, rest_at, advances, turned_at, struck, most_waiting, after_entry, without, Sent, Pulled, Abort, Taken, Given, Destroy}
 use Rattle.session.specs.Views.{Look, Idle, Running, Out, More, Prompting, Ended, View, IsLook, IsKept, IsSeen, spec_seen, Does, Enters, out, taken}
 use Rattle.session.specs.Answers.{is_turn, takes, takes_at, last_of}
-use Rattle.session.specs.Kept.{query_of, look_of, requests_of, view_of, resting, rests, rests_now, MayWait, further_of, IsOver, IsLetter, IsSound, IsBack, Tells, Turns, says, closed}
+use Rattle.session.specs.Kept.{query_of, look_of, requests_of, view_of, resting, rests, rests_now, is_busy, MayWait, further_of, IsOver, IsLetter, IsSound, IsBack, Tells, Turns, says, closed}
 
 -- one event more
 pub said : (v : View) (p : Pengine) (e : Event) → IsKept v p → IsKept (record v { queue = v.queue ++ e ∷ [] }) (emits e p)
@@ -275,19 +276,13 @@ struck_kept a p h = record {
   emitted = h.emitted;
 }
 
--- where a query runs or rests
-abbrev pub IsBusy : Place → Type 0
-IsBusy at.Idle = ⊥
-IsBusy at.Ended = ⊥
-IsBusy s = Unit {0}
-
-pub breaks_off : (spec : Spec) (s : Place) (t : State) (o : Option ℕ) (p : Pengine) → IsBusy s → IsLook (look_of s) t o → aborted_at spec t p ≡ ends spec.destroys (emits event.Abort p)
-breaks_off spec at.Idle t o p b l = absurd b
+pub breaks_off : (spec : Spec) (s : Place) (t : State) (o : Option ℕ) (p : Pengine) → is_busy s ≡ true → IsLook (look_of s) t o → aborted_at spec t p ≡ ends spec.destroys (emits event.Abort p)
+breaks_off spec at.Idle t o p b l = cc
 breaks_off spec (at.Running q) t o p b l = ap (λ z. aborted_at spec z p) l.0
 breaks_off spec (at.Out room further) t o p b l = ap (λ z. aborted_at spec z p) l.0.1
 breaks_off spec (at.More q) t o p b l = ap (λ z. aborted_at spec z p) l.0
 breaks_off spec (at.Prompting q) t o p b l = ap (λ z. aborted_at spec z p) l.0
-breaks_off spec at.Ended t o p b l = absurd b
+breaks_off spec at.Ended t o p b l = cc
 
 -- A take
 
@@ -504,21 +499,6 @@ all_done spec n p a m h e = subst (λ (z : Pengine). IsSeen (view_of a) z) (sym 
 may_go : (a : Automaton) (p : Pengine) → IsSeen (view_of a) p → IsTrue (rests_now a.state) → length a.queue.items < 64 → consumes_now p.state && nat_lt (waiting p) most_waiting ≡ true
 may_go a p h r l = ap (λ z. z && nat_lt (waiting p) most_waiting) (rests_as a.state p.state p.turn h.look ∙ r) ∙ ap (λ z. nat_lt z most_waiting) (waits_as (view_of a) p h.kept) ∙ lt-ltb (length a.queue.items) 64 l
 
-pub consumed_one : (spec : Spec) (n m : ℕ) (p : Pengine) (a b : Automaton) (l : Letter) (ls : List Letter) → Settling spec n p a (suc m) → IsTrue (rests_now a.state) → length a.queue.items < 64 → a.mailbox.items ≡ l ∷ ls →
-    ((q : Pengine) → IsSeen (view_of (record a { mailbox = buffer ls a.mailbox.capacity })) q → IsSeen (view_of b) (fits spec q.state l.node q)) → Settling spec n p b m
-consumed_one spec n m p a b l ls h r k e d = record {
-  next = fits spec h.next.state l.node (record h.next { mailbox = requests_of ls; consumed = suc h.next.consumed });
-  seen = d (record h.next { mailbox = requests_of ls; consumed = suc h.next.consumed }) (opened_seen a l ls h.next e h.seen);
-  same = h.same ∙ goes spec m h.next (may_go a h.next h.seen r k) ∙ ap (settled spec m) (opened spec a l ls h.next e h.seen);
-}
-
-pub consumed_none : (spec : Spec) (n m : ℕ) (p : Pengine) (a : Automaton) → Settling spec n p a (suc m) → IsTrue (rests_now a.state) → length a.queue.items < 64 → a.mailbox.items ≡ [] → Settling spec n p a m
-consumed_none spec n m p a h r k e = record {
-  next = h.next;
-  seen = h.seen;
-  same = h.same ∙ goes spec m h.next (may_go a h.next h.seen r k) ∙ ap (settled spec m) (emptied spec a h.next e h.seen);
-}
-
 pub popped : {A : Type 0} (xs : List A) (x : A) → slice_get xs 0 ≡ Some x → xs ≡ x ∷ drop 1 xs
 popped [] x e = cc
 popped (y ∷ ys) x e = cc
@@ -676,3 +656,142 @@ module _ (a : Automaton) (q : kept.Query) (g : kept_turn.Gone) (f : g.starved �
     seen = λ p s t h. subst (λ (z : Pengine). IsSeen (view_of (closed a.settings.destroys (advanced g a))) z) (sym (fed (Some rest.Over) e p s t h))
         (closed_seen a.settings.destroys (advanced g a) (back p) refl (back_seen p t h));
   }
+
+-- Whole entries: what one does first, and then what is consumed
+
+same_spec : (cs ds : List Clause) (s t : Settings) → cs ≡ ds → s ≡ t → spec_of cs s ≡ spec_of ds t
+same_spec cs ds s t e f = ap (λ z. spec_of z s) e ∙ ap (λ z. spec_of ds z) f
+
+abbrev pub Settles : View → View → Type 0
+Settles v w = Does (λ p. settled (spec_seen v) (length p.mailbox) p) v w
+
+pub sent_does : (a : Automaton) (l : Letter) (n : ℕ) (w : View) → Settles (view_of (record a { mailbox = buffer (a.mailbox.items ++ l ∷ []) a.mailbox.capacity; accepted = n })) w → Enters (Sent l.node) (view_of a) w
+sent_does a l n w d = record { clauses = d.clauses; settings = d.settings; seen = λ p h. d.seen (record p { mailbox = p.mailbox ++ l.node ∷ [] }) (sent_seen a l n p h) }
+
+pub pulled_does : (a : Automaton) (e : Event) (es : List Event) (w : View) → a.queue.items ≡ e ∷ es → Settles (view_of (record a { queue = buffer es a.queue.capacity; pulled = min (a.pulled + 1) (2 ^ 64 - 1) })) w → Enters Pulled (view_of a) w
+pulled_does a e es w i d = record { clauses = d.clauses; settings = d.settings; seen = λ p h. d.seen (record p { pulled = suc p.pulled }) (pulled_seen a e es p i h) }
+
+abbrev pub cleared : Automaton → Automaton
+cleared a = record a { mailbox = buffer [] a.mailbox.capacity }
+
+pub busy_breaks : (a : Automaton) → is_busy a.state ≡ true → Does (λ p. aborted_at (spec_seen (view_of a)) p.state (struck p)) (view_of a) (view_of (closed a.settings.destroys (says event.Abort (record (cleared a) { state = at.Idle }))))
+busy_breaks a b = record {
+  clauses = closed_clauses a.settings.destroys (says event.Abort (record (cleared a) { state = at.Idle }));
+  settings = closed_settings a.settings.destroys (says event.Abort (record (cleared a) { state = at.Idle }));
+  seen = λ p h.
+      let k : IsKept (view_of (record (cleared a) { state = at.Idle })) (struck p) = moved (view_of (cleared a)) (struck p) Idle p.state None (struck_kept a p h.kept) in
+      let e : aborted_at (spec_seen (view_of a)) p.state (struck p) ≡ ends a.settings.destroys (emits event.Abort (struck p)) = breaks_off (spec_seen (view_of a)) a.state p.state p.turn (struck p) b h.look in
+      subst (λ (z : Pengine). IsSeen (view_of (closed a.settings.destroys (says event.Abort (record (cleared a) { state = at.Idle })))) z) (sym e)
+      (closed_seen a.settings.destroys (says event.Abort (record (cleared a) { state = at.Idle })) (emits event.Abort (struck p)) refl (said (view_of (record (cleared a) { state = at.Idle })) (struck p) event.Abort k));
+}
+
+-- outside of a query only the requests are dropped
+outside : (spec : Spec) (s : Place) (t : State) (o : Option ℕ) (p : Pengine) → is_busy s ≡ false → IsLook (look_of s) t o → (aborted_at spec t p ≡ p) × IsLook (look_of s) t None
+outside spec at.Idle t o p b l = (ap (λ z. aborted_at spec z p) l.0, (l.0, refl))
+outside spec (at.Running q) t o p b l = cc
+outside spec (at.Out room further) t o p b l = cc
+outside spec (at.More q) t o p b l = cc
+outside spec (at.Prompting q) t o p b l = cc
+outside spec at.Ended t o p b l = (ap (λ z. aborted_at spec z p) l.0, (l.0, refl))
+
+pub idle_breaks : (a : Automaton) → is_busy a.state ≡ false → Does (λ p. aborted_at (spec_seen (view_of a)) p.state (struck p)) (view_of a) (view_of (cleared a))
+idle_breaks a b = record {
+  clauses = refl;
+  settings = refl;
+  seen = λ p h.
+      let o : (aborted_at (spec_seen (view_of a)) p.state (struck p) ≡ struck p) × IsLook (look_of a.state) p.state None = outside (spec_seen (view_of a)) a.state p.state p.turn (struck p) b h.look in
+      subst (λ (z : Pengine). IsSeen (view_of (cleared a)) z) (sym o.0) (record { look = o.1; kept = struck_kept a p h.kept });
+}
+
+pub then_settles : (v w x : View) (q : Pengine) → w.clauses ≡ v.clauses → w.settings ≡ v.settings → Settles w x → IsSeen w q → IsSeen x (settled (spec_seen v) (length q.mailbox) q)
+then_settles v w x q c s d h = subst (λ (z : Spec). IsSeen x (settled z (length q.mailbox) q)) (same_spec w.clauses v.clauses w.settings v.settings c s) (d.seen q h)
+
+pub aborts : (v w x : View) → Does (λ p. aborted_at (spec_seen v) p.state (struck p)) v w → Settles w x → Enters Abort v x
+aborts v w x d k = record {
+  clauses = k.clauses ∙ d.clauses;
+  settings = k.settings ∙ d.settings;
+  seen = λ p h. then_settles v w x (aborted_at (spec_seen v) p.state (struck p)) d.clauses d.settings k (d.seen p h);
+}
+
+-- a turn that is dropped only leaves those that are lost
+pub dropped_does : (v w : View) (k n e : ℕ) (b : Bool) → Settles v w → Enters (Given k n e b false) v w
+dropped_does v w k n e b d = record { clauses = d.clauses; settings = d.settings; seen = λ p h. d.seen (record p { lost = without k p.lost }) (record { look = h.look; kept = moved_lost p h }) }
+  where
+    moved_lost : (p : Pengine) → IsSeen v p → IsKept v (record p { lost = without k p.lost })
+    moved_lost p h = record { mailbox = h.kept.mailbox; number = h.kept.number; steps = h.kept.steps; events = h.kept.events; pulled = h.kept.pulled; before = h.kept.before; handed = h.kept.handed; emitted = h.kept.emitted }
+
+pub opened_sound : (a : Automaton) (l : Letter) (ls : List Letter) → a.mailbox.items ≡ l ∷ ls → IsSound a → IsSound (record a { mailbox = buffer ls a.mailbox.capacity })
+opened_sound a l ls e h =
+    let k : length a.mailbox.items ≡ suc (length ls) = ap (λ (z : List Letter). length z) e in
+    record {
+      queue_room = h.queue_room;
+      mailbox_room = h.mailbox_room;
+      waits = h.waits;
+      box = omega (arith, k, h.box);
+      count = omega (arith, k, h.count);
+      bound = h.bound;
+      letters = All-rest (IsLetter a.program.value a.settings) l ls a.mailbox.items e h.letters;
+      clauses = h.clauses;
+    }
+
+pub opened_count : (a : Automaton) (l : Letter) (ls : List Letter) → a.mailbox.items ≡ l ∷ ls → IsSound a → a.number + further_of a.state + length ls < a.accepted
+opened_count a l ls e h =
+    let k : length a.mailbox.items ≡ suc (length ls) = ap (λ (z : List Letter). length z) e in
+    omega (arith, k, h.count)
+
+pub opened_letter : (a : Automaton) (l : Letter) (ls : List Letter) → a.mailbox.items ≡ l ∷ ls → IsSound a → IsLetter a.program.value a.settings l
+opened_letter a l ls e h = All-head (IsLetter a.program.value a.settings) l ls (subst (λ (z : List Letter). All (IsLetter a.program.value a.settings) z) e h.letters)
+
+pub consumed_does : (a : Automaton) (l : Letter) (ls : List Letter) (w : View) → a.mailbox.items ≡ l ∷ ls →
+    Does (λ p. fits (spec_seen (view_of a)) p.state l.node p) (view_of (record a { mailbox = buffer ls a.mailbox.capacity })) w → Does (λ p. first_consumed (spec_seen (view_of a)) p.mailbox p) (view_of a) w
+consumed_does a l ls w e d = record {
+  clauses = d.clauses;
+  settings = d.settings;
+  seen = λ p h. subst (λ (z : Pengine). IsSeen w z) (sym (opened (spec_seen (view_of a)) a l ls p e h)) (d.seen (record p { mailbox = requests_of ls; consumed = suc p.consumed }) (opened_seen a l ls p e h));
+}
+
+none_left : (ls : List Letter) → ls ≡ [] → drop 1 ls ≡ []
+none_left ls e = subst (λ (z : List Letter). drop 1 z ≡ []) (sym e) refl
+
+pub empty_does : (a : Automaton) → a.mailbox.items ≡ [] → Does (λ p. first_consumed (spec_seen (view_of a)) p.mailbox p) (view_of a) (view_of (record a { mailbox = buffer (drop 1 a.mailbox.items) a.mailbox.capacity }))
+empty_does a e = record {
+  clauses = refl;
+  settings = refl;
+  seen = λ p h. subst (λ (z : Pengine). IsSeen (view_of (record a { mailbox = buffer (drop 1 a.mailbox.items) a.mailbox.capacity })) z) (sym (emptied (spec_seen (view_of a)) a p e h))
+      (record {
+        look = h.look;
+        kept = record {
+          mailbox = ap requests_of (none_left a.mailbox.items e) ∙ sym (ap requests_of e) ∙ h.kept.mailbox;
+          number = h.kept.number;
+          steps = h.kept.steps;
+          events = h.kept.events;
+          pulled = h.kept.pulled;
+          before = h.kept.before;
+          handed = h.kept.handed;
+          emitted = h.kept.emitted;
+        };
+      });
+}
+
+pub empty_sound : (a : Automaton) → a.mailbox.items ≡ [] → IsSound a → IsSound (record a { mailbox = buffer (drop 1 a.mailbox.items) a.mailbox.capacity })
+empty_sound a e h =
+    let k : length (drop 1 a.mailbox.items) ≡ 0 = ap (λ (z : List Letter). length z) (none_left a.mailbox.items e) in
+    record {
+      queue_room = h.queue_room;
+      mailbox_room = h.mailbox_room;
+      waits = h.waits;
+      box = omega (arith, k);
+      count = omega (arith, k, h.count);
+      bound = h.bound;
+      letters = All-drop (IsLetter a.program.value a.settings) 1 a.mailbox.items h.letters;
+      clauses = h.clauses;
+    }
+
+-- one request of those that are to be consumed
+pub step_on : (v : View) (n m k : ℕ) (p : Pengine) (a b : Automaton) → a.program.value ≡ v.clauses → a.settings ≡ v.settings → Settling (spec_seen v) n p a m → m ≡ suc k → IsTrue (rests_now a.state) → length a.queue.items < 64 →
+    Does (λ q. first_consumed (spec_seen (view_of a)) q.mailbox q) (view_of a) (view_of b) → Settling (spec_seen v) n p b k
+step_on v n m k p a b c s h e r l d = record {
+  next = first_consumed (spec_seen v) h.next.mailbox h.next;
+  seen = subst (λ (z : Spec). IsSeen (view_of b) (first_consumed z h.next.mailbox h.next)) (same_spec a.program.value v.clauses a.settings v.settings c s) (d.seen h.next h.seen);
+  same = h.same ∙ ap (λ z. settled (spec_seen v) z h.next) e ∙ goes (spec_seen v) k h.next (may_go a h.next h.seen r l);
+}

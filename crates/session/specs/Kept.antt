@@ -78,6 +78,15 @@ rests_now (state.More q) = true
 rests_now (state.Prompting q) = true
 rests_now state.Ended = false
 
+-- whether a query runs or rests
+abbrev pub is_busy : State → Bool
+is_busy state.Idle = false
+is_busy (state.Running q) = true
+is_busy (state.Out room further) = true
+is_busy (state.More q) = true
+is_busy (state.Prompting q) = true
+is_busy state.Ended = false
+
 -- so many events may wait: a turn that is out has its room
 abbrev pub MayWait : State → ℕ → Type 0
 MayWait state.Idle n = n ≤ 65

@@ -7,10 +7,10 @@ ghost use Rattle.session.specs.declared.state.State.TheVariants as at;
 ghost use Rattle.session.specs.declared.answers.Given.TheVariants as given;
 ghost use Rattle.session.specs.TurnsKept.{Keeps};
 ghost use Rattle.session.specs.Views as view;
-ghost use Rattle.session.specs.After.{begins, fits, settled, made, Sent, Pulled, Abort, Given as GivenBack};
+ghost use Rattle.session.specs.After.{begins, fits, first_consumed, aborted_at, struck, settled, made, Sent, Pulled, Abort, Given as GivenBack};
 ghost use Rattle.session.specs.Answers.{takes, is_turn, last_of, gives};
 ghost use Rattle.session.specs.Views.{spec_seen, turn_at, taken, IsSeen, Does, Enters, IsTurnOf};
-ghost use Rattle.session.specs.Kept.{query_of, look_of, view_of, resting, rests, rests_now, further_of, IsLetter, IsSound, IsBack, Turns, says, closed};
+ghost use Rattle.session.specs.Kept.{query_of, look_of, view_of, resting, rests, rests_now, is_busy, further_of, IsLetter, IsSound, IsBack, Turns, says, closed};
 
 use crate::answers::Given;
 use crate::letter::Letter;
@@ -242,6 +242,19 @@ impl Automaton {
         }
     }
 
+    // The first request that waits is consumed.
+    fn consume_first(&mut self)
+        requires sound { IsSound self.old }
+        requires rests { IsTrue (rests_now self.old.state) }
+        requires room { length self.old.queue.items < 64 }
+        ensures sound { IsSound self.new }
+        ensures does { Does (λ p. first_consumed (spec_seen (view_of self.old)) p.mailbox p) (view_of self.old) (view_of self.new) }
+    {
+        if let Some(letter) = self.mailbox.pop_front() {
+            self.consume(letter);
+        }
+    }
+
     // Requests are consumed, as far as the pengine rests and there is room for their events.
     fn settle(&mut self)
         requires { IsSound self.old }
@@ -252,9 +265,7 @@ impl Automaton {
             if !self.consumes() {
                 return;
             }
-            if let Some(letter) = self.mailbox.pop_front() {
-                self.consume(letter);
-            }
+            self.consume_first();
         }
     }
 
@@ -272,21 +283,35 @@ impl Automaton {
         self.settle();
     }
 
+    // Whether a query runs or rests.
+    fn is_busy(&self) -> bool
+        ensures { result ≡ is_busy self.now.state }
+    {
+        !matches!(self.state, State::Idle | State::Ended)
+    }
+
+    // The requests that wait are dropped, and the query is broken off.
+    fn break_off(&mut self)
+        requires { IsSound self.old }
+        ensures sound { IsSound self.new }
+        ensures does { Does (λ p. aborted_at (spec_seen (view_of self.old)) p.state (struck p)) (view_of self.old) (view_of self.new) }
+    {
+        self.mailbox.clear();
+        if !self.is_busy() {
+            return;
+        }
+        self.state = State::Idle;
+        self.emit(Event::Abort);
+        self.end();
+    }
+
     // The query is broken off, and the requests that wait are dropped.
     pub(crate) fn abort(&mut self)
         requires { IsSound self.old }
         ensures sound { IsSound self.new }
         ensures does { Enters Abort (view_of self.old) (view_of self.new) }
     {
-        self.mailbox.clear();
-        match mem::replace(&mut self.state, State::Idle) {
-            State::Idle => {}
-            State::Running(_) | State::Out { .. } | State::More(_) | State::Prompting(_) => {
-                self.emit(Event::Abort);
-                self.end();
-            }
-            State::Ended => self.state = State::Ended,
-        }
+        self.break_off();
         self.settle();
     }
 
