@@ -1,5 +1,4 @@
 use event_core::Event;
-use term_core::Memory;
 
 /// Why a request wasn't accepted.
 #[derive(Clone, Copy, Debug, Drop, PartialEq, Eq)]
@@ -10,12 +9,6 @@ pub enum SendFault {
     MailboxFull,
     /// Want of memory.
     Memory,
-}
-
-impl From<Memory> for SendFault {
-    fn from(_refused: Memory) -> SendFault {
-        SendFault::Memory
-    }
 }
 
 /// The answer to a pull.

@@ -8,7 +8,7 @@ ghost use Rattle.session.specs.declared.answers.Given.TheVariants as given;
 ghost use Rattle.session.specs.TurnsKept.{Keeps};
 ghost use Rattle.session.specs.Views as view;
 ghost use Rattle.session.specs.After.{begins, fits, first_consumed, aborted_at, struck, settled, made, Sent, Pulled, Abort, Given as GivenBack};
-ghost use Rattle.session.specs.Answers.{takes, is_turn, last_of, gives};
+ghost use Rattle.session.specs.Answers.{is_ended, takes, is_turn, last_of, gives};
 ghost use Rattle.session.specs.Views.{spec_seen, turn_at, taken, IsSeen, Does, Enters, IsTurnOf};
 ghost use Rattle.session.specs.Kept.{query_of, look_of, view_of, resting, rests, rests_now, is_busy, further_of, IsLetter, IsSound, IsBack, Turns, says, closed};
 
@@ -283,6 +283,12 @@ impl Automaton {
         self.settle();
     }
 
+    pub(crate) fn has_ended(&self) -> bool
+        ensures { result ≡ is_ended (look_of self.now.state) }
+    {
+        matches!(self.state, State::Ended)
+    }
+
     // Whether a query runs or rests.
     fn is_busy(&self) -> bool
         ensures { result ≡ is_busy self.now.state }
@@ -348,7 +354,8 @@ impl Automaton {
 
     // The query is given to a turn, which may make as many events as there are places.
     fn hand_out(&mut self, query: Query) -> Turn
-        requires { length self.old.queue.items < 64 }
+        requires room { length self.old.queue.items < 64 }
+        requires clauses { query.program.value ≡ self.old.program.value }
         ensures turn { result ≡ turn_at (view_of self.old) (query_of query) }
         ensures state { self.new ≡ record self.old { state = at.Out (64 - length self.old.queue.items) (length query.requests) } }
     {

@@ -1,6 +1,7 @@
 ghost use Rattle.std.specs.Prelude.{◌≡◌, IfOk};
 ghost use Rattle.event_core.specs.declared.settings.Settings.{Settings};
-ghost use Rattle.session.specs.Kept.{IsLetter};
+ghost use Rattle.event_core.specs.Standing.{spec_of};
+ghost use Rattle.session.specs.Kept.{Refuses, IsLetter};
 
 use crate::node::Node;
 use crate::stub::refusal;
@@ -19,6 +20,22 @@ pub(crate) struct Letter {
     pub(crate) refusal: Option<Term>,
 }
 
+// The error of the goal of an ask that the sandbox refuses.
+fn refusal_at(
+    alloc: Global,
+    program: &Arc<Program>,
+    request: &Request,
+) -> Result<Option<Term>, Memory>
+    ensures { IfOk result (λ r. (s : Settings) → Refuses (spec_of program.now.value s) request.now r) }
+{
+    match request {
+        Request::Ask(ask) => refusal(alloc, program, ask),
+        Request::Next(_) => Ok(None),
+        Request::Stop => Ok(None),
+        Request::Respond(_) => Ok(None),
+    }
+}
+
 impl Letter {
     pub(crate) fn new(
         alloc: Global,
@@ -28,10 +45,7 @@ impl Letter {
         ensures request { IfOk result (λ l. l.node ≡ request) }
         ensures letter { IfOk result (λ l. (s : Settings) → IsLetter program.now.value s l) }
     {
-        let refusal = match &request {
-            Request::Ask(ask) => refusal(alloc, program, ask)?,
-            Request::Next(_) | Request::Stop | Request::Respond(_) => None,
-        };
+        let refusal = refusal_at(alloc, program, &request)?;
         let program = program.clone()?;
         let node = Node::new(alloc, request)?;
         Ok(Letter {

@@ -61,10 +61,13 @@ impl Session {
             destroys: destroy,
         };
         let mut automaton = Automaton::new(alloc, program, settings)?;
-        if let Some(ask) = ask {
-            automaton.accept(Request::Ask(ask))?;
+        match ask {
+            None => Ok(Session { automaton }),
+            Some(ask) => {
+                automaton.accept(Request::Ask(ask))?;
+                Ok(Session { automaton })
+            }
         }
-        Ok(Session { automaton })
     }
 
     /// Accepts a request, which is consumed when the pengine rests. It is refused where the pengine has ended, then where 64 requests
@@ -75,14 +78,16 @@ impl Session {
         ensures ended { (result ≡ Err fault.Ended) ↔ (self.old.look ≡ Ended) }
         ensures full { (result ≡ Err fault.MailboxFull) ↔ ((self.old.look ≢ Ended) × (most_requests ≤ length self.old.mailbox)) }
     {
-        if matches!(self.automaton.state, State::Ended) {
+        if self.automaton.has_ended() {
             return Err(SendFault::Ended);
         }
         if self.automaton.mailbox.len() >= MOST_REQUESTS {
             return Err(SendFault::MailboxFull);
         }
-        self.automaton.accept(request)?;
-        Ok(())
+        match self.automaton.accept(request) {
+            Ok(()) => Ok(()),
+            Err(Memory) => Err(SendFault::Memory),
+        }
     }
 
     /// Hands out the next event, where one waits.
@@ -143,7 +148,7 @@ impl Session {
     pub fn ended(&self) -> bool
         ensures { result ≡ is_ended self.now.look }
     {
-        matches!(self.automaton.state, State::Ended)
+        self.automaton.has_ended()
     }
 
     /// Whether `take` would give a turn.
