@@ -4,12 +4,14 @@
 //! answers.
 #![tactic(auto)]
 
+mod checking;
 mod input;
 mod output;
 mod printing;
 mod refusal;
 mod run;
 mod session;
+mod words;
 
 use output::say;
 use outside::{StdSink, StdSource};
@@ -45,5 +47,7 @@ fn main(rt: HostRuntime) -> ExitCode {
 
 #[cfg(test)]
 mod goals;
+#[cfg(test)]
+mod sandboxing;
 #[cfg(test)]
 mod tests;

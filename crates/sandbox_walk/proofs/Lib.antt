@@ -1,7 +1,9 @@
 pub mod Collecting
 pub mod Guarded
+pub mod Handing
 pub mod Instances
 pub mod Joining
+pub mod Keeping
 pub mod Linking
 pub mod Passing
 pub mod Reading
