@@ -4,7 +4,6 @@ pub mod Begun
 pub mod Kept
 pub mod Laws
 pub mod Legal
-pub mod Reaching
 pub mod Turns
 pub mod TurnsKept
 pub mod Views

@@ -6,10 +6,8 @@ use Rattle.event_core.specs.declared.settings.Settings.{Settings}
 use Rattle.event_core.specs.Full.{Query, part_of, events_of}
 use Rattle.event_core.specs.Laws.{StaysInside, replying}
 use Rattle.event_core.specs.Standing.{spec_of}
-use Rattle.session.specs.declared.made.Made.{Made}
 use Rattle.session.specs.declared.turn.Gone as kept
 use Rattle.session.specs.declared.turn.Turn.TheInside.{Inside}
-use Rattle.session.specs.Turns.{Turns}
 use Rattle.session.specs.After as state
 use Rattle.session.specs.After.{Pengine, after_entry, Given}
 use Rattle.session.specs.Views.{View, IsSeen, spec_seen, Gone, TurnView}
@@ -59,18 +57,6 @@ pub record IsGone (t : TurnView) (g : Gone) : Type 0 where
 abbrev pub IsGoneAt : TurnView → Option Gone → Type 0
 IsGoneAt t None = Unit {0}
 IsGoneAt t (Some g) = IsGone t g
-
--- the event `memory` counts as one that was made
-abbrev pub told : Gone → ℕ
-told g = if g.starved then length g.events + 1 else length g.events
-
--- The turn has gone, and tells what it made: this is as a turn is to be.
-pub record Goes (budget : ℕ) (before after : TurnView) (made : Made) : Type 0 where
-  pub gone : Gone
-  pub after_is : after ≡ record before { gone = Some gone }
-  pub steps : made.steps ≡ gone.steps
-  pub events : made.events ≡ told gone
-  pub turned : Starts before → Turns (part_of (spec_of before.clauses before.settings) before.query) before.steps before.events budget before.room gone.steps (length gone.events) gone.starved
 
 -- A turn was kept: what looked like v, and whose query the turn had, looks like w after the entry. A turn that starts otherwise than the definition says is never out.
 pub record Keeps (v : View) (t : TurnView) (g : Gone) (w : View) : Type 0 where

@@ -4,8 +4,7 @@ ghost use Rattle.event_core.specs.Standing.{spec_of};
 ghost use Rattle.session.specs.Kept.{Refuses, IsLetter};
 
 use crate::node::Node;
-use crate::stub::refusal;
-use event_core::Request;
+use event_core::{Request, refusal};
 use program::Program;
 use std::alloc::Global;
 use std::sync::Arc;
@@ -29,7 +28,10 @@ fn refusal_at(
     ensures { IfOk result (λ r. (s : Settings) → Refuses (spec_of program.now.value s) request.now r) }
 {
     match request {
-        Request::Ask(ask) => refusal(alloc, program, ask),
+        Request::Ask(ask) => {
+            let refusal = refusal(alloc, program, ask)?;
+            Ok(refusal)
+        }
         Request::Next(_) => Ok(None),
         Request::Stop => Ok(None),
         Request::Respond(_) => Ok(None),

@@ -77,7 +77,7 @@ pub returns-in-Some-More-clause-turns : goal.returns-in-Some-More-clause-turns
 returns-in-Some-More-clause-turns c =
     let e : c.wait.new.self ≡ advanced c.args.gone c.args.self.now = waited c.args.self.now c.args.gone c.len.result c.wait.new.self c.len.ensures c.wait.ensures in
     let k : record c.wait.new.self { state = at.More c.args.query } ≡ record (advanced c.args.gone c.args.self.now) { state = at.More c.args.query } = ap (λ (z : Automaton). record z { state = at.More c.args.query }) e in
-    subst (λ (z : Automaton). Turns c.args.query c.args.gone (view_of c.args.self.now) (view_of z)) (sym k) (rests_more c.args.self.now c.args.query c.args.gone c.if-starved.false (tie c.args.gone.rest c.in-Some-More.field-0 rest.More c.in-Some-More.is (sym c.in-Some-More.field-0-is)))
+    subst (λ (z : Automaton). Turns c.args.query c.args.gone (view_of c.args.self.now) (view_of z)) (sym k) (rests_more c.args.self.now c.args.query c.args.gone c.if-starved.false (tie c.args.gone.rest c.in-Some-More.field-0 rest.More c.in-Some-More.is (rw c.in-Some-More.is at c.in-Some-More.field-0-is)))
 
 pub returns-in-Some-Prompting-clause-sound : goal.returns-in-Some-Prompting-clause-sound
 returns-in-Some-Prompting-clause-sound c =
@@ -90,7 +90,7 @@ pub returns-in-Some-Prompting-clause-turns : goal.returns-in-Some-Prompting-clau
 returns-in-Some-Prompting-clause-turns c =
     let e : c.wait.new.self ≡ advanced c.args.gone c.args.self.now = waited c.args.self.now c.args.gone c.len.result c.wait.new.self c.len.ensures c.wait.ensures in
     let k : record c.wait.new.self { state = at.Prompting c.args.query } ≡ record (advanced c.args.gone c.args.self.now) { state = at.Prompting c.args.query } = ap (λ (z : Automaton). record z { state = at.Prompting c.args.query }) e in
-    subst (λ (z : Automaton). Turns c.args.query c.args.gone (view_of c.args.self.now) (view_of z)) (sym k) (rests_prompting c.args.self.now c.args.query c.args.gone c.if-starved.false (tie c.args.gone.rest c.in-Some-Prompting.field-0 rest.Prompting c.in-Some-Prompting.is (sym c.in-Some-Prompting.field-0-is)))
+    subst (λ (z : Automaton). Turns c.args.query c.args.gone (view_of c.args.self.now) (view_of z)) (sym k) (rests_prompting c.args.self.now c.args.query c.args.gone c.if-starved.false (tie c.args.gone.rest c.in-Some-Prompting.field-0 rest.Prompting c.in-Some-Prompting.is (rw c.in-Some-Prompting.is at c.in-Some-Prompting.field-0-is)))
 
 pub returns-in-Some-Over-clause-sound : goal.returns-in-Some-Over-clause-sound
 returns-in-Some-Over-clause-sound c =
@@ -102,5 +102,5 @@ pub returns-in-Some-Over-clause-turns : goal.returns-in-Some-Over-clause-turns
 returns-in-Some-Over-clause-turns c =
     let e : c.wait.new.self ≡ advanced c.args.gone c.args.self.now = waited c.args.self.now c.args.gone c.len.result c.wait.new.self c.len.ensures c.wait.ensures in
     let k : c.end-in-Some-Over.new.self ≡ closed c.args.self.now.settings.destroys (advanced c.args.gone c.args.self.now) = c.end-in-Some-Over.ensures ∙ ap (λ (z : Automaton). closed z.settings.destroys z) e in
-    subst (λ (z : Automaton). Turns c.args.query c.args.gone (view_of c.args.self.now) (view_of z)) (sym k) (over c.args.self.now c.args.query c.args.gone c.if-starved.false (tie c.args.gone.rest c.in-Some-Over.field-0 rest.Over c.in-Some-Over.is (sym c.in-Some-Over.field-0-is)))
+    subst (λ (z : Automaton). Turns c.args.query c.args.gone (view_of c.args.self.now) (view_of z)) (sym k) (over c.args.self.now c.args.query c.args.gone c.if-starved.false (tie c.args.gone.rest c.in-Some-Over.field-0 rest.Over c.in-Some-Over.is (rw c.in-Some-Over.is at c.in-Some-Over.field-0-is)))
 
