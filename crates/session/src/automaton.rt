@@ -219,7 +219,10 @@ impl Automaton {
     fn consumes(&self) -> bool
         ensures { IsTrue result ↔ (IsTrue (rests_now self.now.state) × (length self.now.queue.items < 64)) }
     {
-        let rests = matches!(self.state, State::Idle | State::More(_) | State::Prompting(_));
+        let rests = matches!(
+            self.state,
+            State::Idle | State::More(_) | State::Prompting(_)
+        );
         rests && self.queue.len() < MOST_WAITING
     }
 

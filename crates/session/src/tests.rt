@@ -68,7 +68,11 @@ fn an_abort_ends_the_query(rt: HostRuntime) -> Result<(), Fail> {
     ]?;
     let mut session = session(alloc, clauses)?;
     assert!(rt; !session.ready());
-    assert!(rt; session.send(ask(alloc, of_p(alloc, Term::var(alloc, 0)?)?)?).is_ok());
+    assert!(rt;
+        session
+            .send(ask(alloc, of_p(alloc, Term::var(alloc, 0)?)?)?)
+            .is_ok()
+    );
     assert!(rt; session.ready());
     let Took::Turn(turn) = session.take() else {
         return Err(Fail::from(Memory));
@@ -93,7 +97,12 @@ fn a_full_mailbox_refuses(rt: HostRuntime) -> Result<(), Fail> {
     for _ in 0..64 {
         assert!(rt; session.send(Request::Next(None)).is_ok());
     }
-    assert!(rt; matches!(session.send(Request::Next(None)), Err(SendFault::MailboxFull)));
+    assert!(rt;
+        matches!(
+            session.send(Request::Next(None)),
+            Err(SendFault::MailboxFull)
+        )
+    );
     session.abort();
     assert!(rt; matches!(session.pull(), Pulled::Event(1, Event::Abort)));
     assert!(rt; is_pending(&mut session));
