@@ -9,7 +9,7 @@ use Rattle.session.specs.declared.answers.Pulled.TheVariants as pulled
 use Rattle.session.specs.declared.took.Took.{Took}
 use Rattle.session.specs.declared.took.Took.TheVariants as took
 use Rattle.session.specs.After.{most_waiting}
-use Rattle.session.specs.Views.{Look, Idle, Running, Out, More, Prompting, Ended, View, turn_at}
+use Rattle.session.specs.Views.{Look, Running, Out, Ended, View, turn_at}
 
 abbrev pub is_ended : Look → Bool
 is_ended Ended = true

@@ -1,4 +1,4 @@
-use Rattle.std.proofs.Common.{◌≡◌, ◌∙◌, ◌+◌, ◌≤◌, ◌<◌, ◌++◌, ap, sym, subst, length, map, Option, None, Some, arith}
+use Rattle.std.proofs.Common.{◌≡◌, ◌∙◌, ◌+◌, ◌≤◌, ◌<◌, ◌++◌, ap, sym, subst, length, map, Option, Some, arith}
 use Rattle.circular_buffer.specs.Buffer.{buffer}
 use Rattle.event_core.specs.declared.event.Event.TheVariants as event
 use Rattle.event_core.specs.declared.rest.Rest.{Rest}
@@ -6,7 +6,7 @@ use Rattle.event_core.specs.declared.rest.Rest.TheVariants as rest
 use Rattle.session.specs.declared.automaton.Automaton.{Automaton}
 use Rattle.session.specs.declared.state.State.TheVariants as at
 use Rattle.session.specs.declared.turn.Gone.{Gone}
-use Rattle.session.specs.Kept.{view_of, IsSound, IsBack, Turns, MayWait, says, closed}
+use Rattle.session.specs.Kept.{view_of, IsSound, Turns, MayWait, says, closed}
 use Rattle.session.proofs.Seen.{advanced, advanced_room, advanced_fair, advanced_count, running_sound, rests_sound, closed_sound, said_most, fair_more, starved_turns, runs_on, rests_more, rests_prompting, over}
 use Rattle.session.proofs.automaton.Automaton.keep.Goals as goal
 
@@ -103,3 +103,4 @@ returns-in-Some-Over-clause-turns c =
     let e : c.wait.new.self ≡ advanced c.args.gone c.args.self.now = waited c.args.self.now c.args.gone c.len.result c.wait.new.self c.len.ensures c.wait.ensures in
     let k : c.end-in-Some-Over.new.self ≡ closed c.args.self.now.settings.destroys (advanced c.args.gone c.args.self.now) = c.end-in-Some-Over.ensures ∙ ap (λ (z : Automaton). closed z.settings.destroys z) e in
     subst (λ (z : Automaton). Turns c.args.query c.args.gone (view_of c.args.self.now) (view_of z)) (sym k) (over c.args.self.now c.args.query c.args.gone c.if-starved.false (tie c.args.gone.rest c.in-Some-Over.field-0 rest.Over c.in-Some-Over.is (rw c.in-Some-Over.is at c.in-Some-Over.field-0-is)))
+

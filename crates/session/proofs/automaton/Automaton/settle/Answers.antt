@@ -1,4 +1,4 @@
-use Rattle.std.proofs.Common.{◌≡◌, ℕ, suc, ◌+◌, ◌-◌, ◌<◌, ◌∙◌, ap, sym, refl, length, List, arith}
+use Rattle.std.proofs.Common.{◌≡◌, ◌-◌, ◌∙◌, ap, sym, length, List, arith}
 use Rattle.std.proofs.lemmas.List.{length-map}
 use Rattle.event_core.specs.declared.request.Request.{Request}
 use Rattle.session.specs.declared.letter.Letter.{Letter}

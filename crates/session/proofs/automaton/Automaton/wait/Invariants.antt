@@ -1,5 +1,4 @@
-use Rattle.std.proofs.Common.{◌≡◌, ◌++◌, map, List, ℕ}
-use Rattle.circular_buffer.specs.Buffer.{buffer}
+use Rattle.std.proofs.Common.{◌≡◌, ◌++◌, map}
 use Rattle.session.proofs.automaton.Automaton.wait.Given as goal
 
 -- the events that were put there, and those that are left
