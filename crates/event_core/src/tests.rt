@@ -1,7 +1,7 @@
 // Each public call once. The program has no clauses.
-
 use crate::{
-    Ask, Event, Fit, MAX_DEPTH, Pengine, Request, Rest, Settings, all_events, fits, line, refusal,
+    Ask, Event, Fit, MAX_DEPTH, Pengine, Request, Rest, Settings, all_events, fit_of, fits, line,
+    reach, refusal,
 };
 use program::Program;
 use std::alloc::Global;
