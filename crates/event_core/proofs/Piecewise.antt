@@ -17,7 +17,7 @@ use Rattle.event_core.specs.declared.rest.Rest.{Rest}
 use Rattle.event_core.specs.declared.rest.Rest.TheVariants.{More, Prompting, Over}
 use Rattle.event_core.specs.Requests.{fit, chunk_after}
 use Rattle.event_core.specs.Parts.{Part, rests, gives, at_next, at_respond, after_chunk, is_full, part_of, part_step}
-use Rattle.event_core.specs.Pieces.{Piece, telling, piece_of, resumed, Seen, seen, adds}
+use Rattle.event_core.specs.Pieces.{Piece, telling, piece_of, Seen, seen, adds}
 use Rattle.event_core.specs.Reads.{resumes, pieces_from, rest_reached}
 use Rattle.event_core.specs.Reaching.{IsBegun, IsWhole}
 use Rattle.event_core.proofs.Growing.{adds_twice, further, Parted, parted}

@@ -1,5 +1,5 @@
 -- The events of a query as far as a number of steps reaches.
-use Rattle.std.proofs.Common.{◌≡◌, ℕ, suc, ◌≤◌, ◌<◌, Bool, true, false, List, [], ◌∷◌, ◌++◌, nat_lt, ◌&&◌, if◌then◌else◌, min, Option, Some, None, refl, ap, sym, subst, ◌∙◌, append_assoc, append-nil, arith, ◌⊎◌, inl, inr}
+use Rattle.std.proofs.Common.{◌≡◌, ℕ, suc, ◌≤◌, ◌<◌, Bool, true, false, List, [], ◌∷◌, ◌++◌, nat_lt, ◌&&◌, if◌then◌else◌, min, Option, Some, None, refl, ap, sym, subst, ◌∙◌, append-nil, arith, ◌⊎◌, inl, inr}
 use Rattle.std.specs.List.{All, AllByRecursion}
 use Rattle.std.proofs.lemmas.Bool.{lt-ltb, le-ltb, cases_lt}
 use Rattle.std.proofs.lemmas.List.Elements.{All-from_recursion}
@@ -7,12 +7,12 @@ use Rattle.term_core.specs.Tree.{Tree}
 use Rattle.term_core.specs.Variables.{numbered}
 use Rattle.program.specs.Clauses.{Clause}
 use Rattle.solve_model.specs.Goals.{Ready, Runs, Throws, ready}
-use Rattle.solve_model.specs.Run.{World, Mark, End, Failed, Cut, Thrown, Waits, Spent, Outside, Used, Ran, Goal, ends, after, at_cut, run, start, unused, query}
+use Rattle.solve_model.specs.Run.{Mark, End, Failed, Cut, Thrown, Waits, Spent, Outside, Used, Ran, Goal, ends, after, at_cut, run, start, unused, query}
 use Rattle.solve_model.specs.Trace.{world_of, mark_shown, marks_shown, end_shown, traced}
 use Rattle.solve_model.proofs.RunLaws.{AllFrom, AllUpTo, IsTimed, IsLonger, run_timed, run_grows_on}
 use Rattle.event_core.specs.declared.stop.Stop.{Stop}
 use Rattle.event_core.specs.declared.stop.Stop.TheVariants.{Ball}
-use Rattle.event_core.specs.Stops.{mark_stop, is_followed, at_end, end_stop, stops_of, trace_stops, resource_error, stop_fits, cut_at, is_spent}
+use Rattle.event_core.specs.Stops.{is_followed, at_end, end_stop, stops_of, trace_stops, resource_error, stop_fits, cut_at, is_spent}
 use Rattle.event_core.specs.Reaching.{IsBegun}
 
 abbrev Marks : Type 0

@@ -1,5 +1,5 @@
 -- The steps of a query's marks never fall, and so those of its stops and of its events.
-use Rattle.std.proofs.Common.{◌≡◌, ℕ, zero, suc, ◌≤◌, ◌<◌, Bool, true, false, cond, List, [], ◌∷◌, ◌++◌, filter, slice_get, Option, Some, None, refl, ap, sym, subst, arith, ◌⊎◌, inl, inr, append-nil, ◌∙◌}
+use Rattle.std.proofs.Common.{ℕ, zero, suc, ◌≤◌, ◌<◌, Bool, true, false, cond, List, [], ◌∷◌, ◌++◌, filter, slice_get, Option, Some, None, refl, sym, subst, arith, ◌⊎◌, inl, inr}
 use Rattle.std.specs.Prelude.{AllPairs}
 use Rattle.std.proofs.lemmas.Bool.{cases_lt}
 use Rattle.std.proofs.lemmas.List.Elements.{All-from_recursion}
@@ -7,16 +7,15 @@ use Rattle.std.proofs.lemmas.List.Kept.{AllPairs-cons}
 use Rattle.term_core.specs.Tree.{Tree}
 use Rattle.term_core.specs.Variables.{numbered}
 use Rattle.solve_model.specs.Goals.{Ready, Runs, Throws, ready}
-use Rattle.solve_model.specs.Run.{World, Item, Goal, End, Waits, Failed, Spent, Mark, Told, Asked, Thrown, marked, one_reply, if_replied, Place, Used, Ran, Runner, ends, after, at_cut, item_step, one_more, taken, run, start, unused, query, is_shown_outside, without_answers}
-use Rattle.solve_model.specs.Trace.{mark_shown, marks_shown, end_shown, traced}
+use Rattle.solve_model.specs.Run.{World, Item, Goal, End, Waits, Failed, Spent, Mark, Told, Asked, Thrown, marked, one_reply, if_replied, Place, Used, Ran, ends, after, at_cut, one_more, taken, run, start, unused, query, is_shown_outside, without_answers}
+use Rattle.solve_model.specs.Trace.{mark_shown, marks_shown, end_shown}
 use Rattle.solve_model.proofs.Relate.{PassesStops, NotWaits, IsKept, item_kept, cut_kept, cut_passes}
 use Rattle.solve_model.proofs.RunLaws.{taken_before, taken_at_limit}
 use Rattle.event_core.specs.declared.stop.Stop.{Stop}
 use Rattle.event_core.specs.declared.stop.Stop.TheVariants.{Ball}
-use Rattle.event_core.specs.declared.event.Event.{Event}
 use Rattle.event_core.specs.declared.request.Request.{Request}
-use Rattle.event_core.specs.Stops.{mark_stop, is_followed, at_end, end_stop, stops_of, trace_stops, resource_error, stop_fits, cut_at, stops}
-use Rattle.event_core.specs.Parts.{Part, part_of, part, replies}
+use Rattle.event_core.specs.Stops.{mark_stop, is_followed, at_end, end_stop, stops_of, resource_error, stop_fits, cut_at, stops}
+use Rattle.event_core.specs.Parts.{part_of, part, replies}
 use Rattle.event_core.specs.Laws.{StepsNeverFall}
 use Rattle.event_core.proofs.Reaching.{Each}
 use Rattle.event_core.proofs.Piecewise.{events_each, step_keeps}

@@ -1,6 +1,8 @@
 // Each public call once. The program has no clauses.
-
-use crate::{Ask, Event, MAX_DEPTH, Pengine, Request, Settings, all_events, fits, line, refusal};
+use crate::{
+    Ask, Event, Fit, MAX_DEPTH, Pengine, Request, Rest, Settings, all_events, fit_of, fits, line,
+    reach, refusal,
+};
 use program::Program;
 use std::alloc::Global;
 use std::sync::Arc;
@@ -68,6 +70,14 @@ fn calls(rt: HostRuntime) -> Result<(), Fail> {
     let program = program(alloc)?;
     assert!(rt; refusal(alloc, &program, &ask(alloc, "halt")?)?.is_some());
     assert!(rt; refusal(alloc, &program, &ask(alloc, "true")?)?.is_none());
+    let failing = ask(alloc, "fail")?;
+    let whole = reach(alloc, &program, Settings::DEFAULT, &failing, &[], 1)?;
+    assert_eq!(rt; whole.events.len(), 1);
+    assert!(rt; matches!(whole.rest, Some(Rest::Over)));
+    let cut = reach(alloc, &program, Settings::DEFAULT, &failing, &[], 0)?;
+    assert_eq!(rt; cut.events.len(), 0);
+    assert!(rt; cut.rest.is_none());
+    assert!(rt; matches!(fit_of(Rest::More, &Request::Stop), Fit::Stops));
     let mut pengine = Pengine::new(program, Settings::DEFAULT);
     assert_eq!(rt; pengine.abort(alloc)?.len(), 0);
     let events = pengine.request(alloc, Request::Ask(ask(alloc, "fail")?))?;

@@ -1,4 +1,4 @@
-use Rattle.std.proofs.Common.{◌≡◌, ◌∙◌, ap, sym, Some}
+use Rattle.std.proofs.Common.{◌∙◌, ap, sym, Some}
 use Rattle.event_core.specs.Refusals.{told_error}
 use Rattle.event_core.proofs.Refusing.{passes, refuses}
 use Rattle.event_core.proofs.refused.refusal.Goals as goal

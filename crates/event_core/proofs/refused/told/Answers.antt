@@ -1,7 +1,7 @@
 use Rattle.std.proofs.Common.{◌≡◌, ◌∙◌, ap}
 use Rattle.std.proofs.lemmas.Result.{IfOk-weaker}
 use Rattle.term_core.specs.Variables.{numbered}
-use Rattle.builtin_table.specs.Errors.{error_term, no_context}
+use Rattle.builtin_table.specs.Errors.{error_term}
 use Rattle.event_core.specs.Refusals.{told_error}
 use Rattle.event_core.specs.Stops.{resource_error}
 use Rattle.event_core.proofs.Refusing.{told_whole, told_instead}
