@@ -10,6 +10,6 @@ loop-word-preserved c =
     let new = c.put.new.self in
     record {
       cells = subst (All (IsCell new)) (sym c.in_ok-push.ensures.ok)
-          (All-push (IsCell new) c.loop-word.cells c.in_ok-put.put
-          (All-weaker (IsCell c.loop-word.store) (IsCell new) (λ d h. (made.keeps.cells d h).0) c.loop-word.cells c.loop-word.invariant.cells) made.is_cell);
+          (All-push (IsCell new) c.loop-word.cells.items c.in_ok-put.put
+          (All-weaker (IsCell c.loop-word.store) (IsCell new) (λ d h. (made.keeps.cells d h).0) c.loop-word.cells.items c.loop-word.invariant.cells) made.is_cell);
     }
