@@ -4,4 +4,3 @@ pub mod Resolution
 pub mod Room
 mod Rows
 pub mod Schedule
-pub mod Seen
