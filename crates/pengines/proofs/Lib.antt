@@ -1,4 +1,4 @@
+pub mod CommandWords
 pub mod Judging
 pub mod Lines
 pub mod Reading
-pub mod Words
