@@ -158,7 +158,10 @@ fn run_case(rt: &impl Abort, alloc: Global, case: &Case) -> Result<(), Fail> {
     let mut out = MemSink::new(alloc, &[])?;
     let mut err = MemSink::new(alloc, &[])?;
     let status = run_plain(alloc, &words, &mut src, &mut out, &mut err);
-    let goal = case.words[case.words.len() - 1];
+    let goal = match case.words.last() {
+        Some(goal) => *goal,
+        None => "",
+    };
     assert_eq!(rt; status, case.status, "{goal}");
     assert_eq!(rt; out.taken(), case.written, "{goal}");
     assert_eq!(rt; err.taken(), case.said, "{goal}");
