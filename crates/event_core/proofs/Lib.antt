@@ -5,9 +5,13 @@ pub mod Growing
 pub mod Longer
 pub mod Parts
 pub mod Pieces
+pub mod Piecewise
 pub mod Prompts
+pub mod Reaching
 pub mod Reading
+pub mod Refusing
 pub mod Resting
+pub mod Rising
 mod Rows
 pub mod Standing
 pub mod Stepping

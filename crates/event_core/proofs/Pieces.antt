@@ -11,7 +11,7 @@ use Rattle.event_core.specs.Parts.{Part, gives, at_next, part_of, part_step, is_
 use Rattle.event_core.specs.Pieces.{Piece, piece_step, piece_of, closes_with, resumed, Seen, seen, adds}
 
 -- the whole of a piece and of what is left
-abbrev both : (size : Tree → ℕ) → ℕ → Piece → List Request → Seen
+abbrev pub both : (size : Tree → ℕ) → ℕ → Piece → List Request → Seen
 both size c p rs = adds p.events (seen (resumed size p.rest p.left c rs))
 
 no_stop : (size : Tree → ℕ) (c : ℕ) (rs : List Request) → seen (part_of size [] c [] rs) ≡ seen (resumed size Prompting [] c rs)
@@ -39,7 +39,7 @@ module _ (size : Tree → ℕ) (ps : List (ℕ × Stop)) (c : ℕ) (ih : (held :
     where
       at : (b : Bool) →
           seen (elim b as (λ y. Part) [ true ↦ gives k (Success (held ++ t ∷ []) true) (at_next rs c (λ d qs. part_of size ps d [] qs)) | false ↦ part_of size ps c (held ++ t ∷ []) rs ])
-          ≡ both size c (elim b as (λ y. Piece) [ true ↦ closes_with (Success (held ++ t ∷ []) true) More ps | false ↦ piece_of size c ps (held ++ t ∷ []) ]) rs
+          ≡ both size c (elim b as (λ y. Piece) [ true ↦ closes_with k (Success (held ++ t ∷ []) true) More ps | false ↦ piece_of size c ps (held ++ t ∷ []) ]) rs
       at true = refl
       at false = ih (held ++ t ∷ []) rs
   step_both k (stop.Output t) held rs = ap (adds (_ ∷ [])) (ih held rs)

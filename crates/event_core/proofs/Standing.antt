@@ -2,7 +2,7 @@
 use Rattle.std.proofs.Common.{◌≡◌, ◌≢◌, ℕ, ◌+◌, ◌-◌, Bool, true, false, if◌then◌else◌, List, [], ◌∷◌, ◌++◌, length, drop, Some, None, refl, ap, sym, subst, ◌∙◌, append_assoc, append-nil, arith}
 use Rattle.std.specs.Prelude.{⊤}
 use Rattle.std.proofs.Math.Seq.{drop-append_seam}
-use Rattle.std.proofs.lemmas.List.{length-map, length-append}
+use Rattle.std.proofs.lemmas.List.{length-map, length-append, map-append}
 use Rattle.std.proofs.lemmas.List.Elements.{filter_map-append}
 use Rattle.term_core.specs.Tree.{Tree}
 use Rattle.event_core.specs.declared.stop.Stop.{Stop}
@@ -31,18 +31,18 @@ use Rattle.event_core.specs.Full as full
 use Rattle.event_core.specs.Full.{Spec, Query, events_of, span, In, at, closes, comes_to, gives_all_at, gives_all, fitted, step}
 use Rattle.event_core.specs.Standing.{query_at, further, stops_for, left_after, awaited, chunk_of, IsReadAt, IsRead, spec_of}
 use Rattle.event_core.proofs.Ending.{query_ends}
-use Rattle.event_core.proofs.Growing.{Parts, part_followed, piece_parts}
+use Rattle.event_core.proofs.Growing.{adds_twice, Parts, part_followed, piece_parts}
 use Rattle.event_core.proofs.Longer.{stops_longer}
-use Rattle.event_core.proofs.Resting.{told-span, none_left, closes_rests}
+use Rattle.event_core.proofs.Resting.{told, told-span, none_left, closes_rests}
 
 -- nothing is given where no request comes
-nothing : (size : Tree → ℕ) (r : Rest) (ps : List (ℕ × Stop)) (c : ℕ) → seen (resumed size r ps c []) ≡ record { events = []; rest = r }
+pub nothing : (size : Tree → ℕ) (r : Rest) (ps : List (ℕ × Stop)) (c : ℕ) → seen (resumed size r ps c []) ≡ record { events = []; rest = r }
 nothing size More ps c = refl
 nothing size Prompting ps c = refl
 nothing size Over ps c = refl
 
 -- a request that fits is read
-goes_on : (size : Tree → ℕ) (r : Rest) (q : Request) → fit r q ≡ GoesOn → (ps : List (ℕ × Stop)) (c : ℕ) (more : List Request) → resumed size r ps c (q ∷ more) ≡ part_of size ps (chunk_after q c) [] more
+pub goes_on : (size : Tree → ℕ) (r : Rest) (q : Request) → fit r q ≡ GoesOn → (ps : List (ℕ × Stop)) (c : ℕ) (more : List Request) → resumed size r ps c (q ∷ more) ≡ part_of size ps (chunk_after q c) [] more
 goes_on size More (request.Next None) e ps c more = refl
 goes_on size More (request.Next (Some d)) e ps c more = refl
 goes_on size More (request.Ask a) e ps c more = cc
@@ -54,29 +54,30 @@ goes_on size Prompting request.Stop e ps c more = cc
 goes_on size Prompting (request.Next d) e ps c more = cc
 goes_on size Over q e ps c more = cc
 
-adds_twice : (es fs : List Event) (s : Seen) → adds es (adds fs s) ≡ adds (es ++ fs) s
-adds_twice es fs s = ap (λ (l : List Event). let x : Seen = record { events = l; rest = s.rest } in x) (sym (append_assoc es fs s.events))
-
 abbrev size : Tree → ℕ
 size = text_size quoted
+
+-- events, each with its step
+abbrev Steps : Type 0
+Steps = List (ℕ × Event)
 
 abbrev StopList : Type 0
 StopList = List (ℕ × Stop)
 
 -- After the requests rs the query has given `old` and then `new`, and what is left are these stops, with chunk c, also where further stops follow.
-abbrev pub Comes : (cs : List Clause) (s : Settings) (a : Ask) (rs : List Request) (old new : List Event) (r : Rest) (ps : StopList) (c : ℕ) → Type 0
+abbrev pub Comes : (cs : List Clause) (s : Settings) (a : Ask) (rs : List Request) (old new : Steps) (r : Rest) (ps : StopList) (c : ℕ) → Type 0
 Comes cs s a rs old new r ps c =
     (qs : StopList) (more : List Request) →
     seen (part_of size (stops_for cs s a rs ++ qs) (chunk_of s a) [] (rs ++ more)) ≡ adds (old ++ new) (seen (resumed size r (ps ++ qs) c more))
 
-module _ (cs : List Clause) (s : Settings) (a : Ask) (rs : List Request) (old new : List Event) (r : Rest) (ps : StopList) (c : ℕ) (h : Comes cs s a rs old new r ps c) where
+module _ (cs : List Clause) (s : Settings) (a : Ask) (rs : List Request) (old new : Steps) (r : Rest) (ps : StopList) (c : ℕ) (h : Comes cs s a rs old new r ps c) where
   so_far : seen (part_of size (stops_for cs s a rs) (chunk_of s a) [] rs) ≡ record { events = old ++ new; rest = r }
   so_far =
       ap (λ l. seen (part_of size l (chunk_of s a) [] rs)) (sym (append-nil (stops_for cs s a rs)))
       ∙ ap (λ l. seen (part_of size (stops_for cs s a rs ++ []) (chunk_of s a) [] l)) (sym (append-nil rs))
       ∙ h [] []
       ∙ ap (adds (old ++ new)) (nothing size r (ps ++ []) c)
-      ∙ ap (λ (l : List Event). let x : Seen = record { events = l; rest = r } in x) (append-nil (old ++ new))
+      ∙ ap (λ (l : Steps). let x : Seen = record { events = l; rest = r } in x) (append-nil (old ++ new))
 
   pub reads_on : (qs : StopList) (more : List Request) →
       seen (part_of size (stops_for cs s a rs ++ qs) (chunk_of s a) [] (rs ++ more))
@@ -84,20 +85,20 @@ module _ (cs : List Clause) (s : Settings) (a : Ask) (rs : List Request) (old ne
   reads_on qs more = h qs more ∙ ap (λ l. adds l (seen (resumed size r (ps ++ qs) c more))) (sym (ap (λ (x : Seen). x.events) so_far))
 
   -- the query gives its new events and comes to the rest
-  pub arrives : (g : ℕ) → g ≡ length old → gives_all_at (spec_of cs s) (In (record { asked = a; requests = rs }) g) [] ≡ comes_to (spec_of cs s) (record { asked = a; requests = rs }) r new
+  pub arrives : (g : ℕ) → g ≡ length old → gives_all_at (spec_of cs s) (In (record { asked = a; requests = rs }) g) [] ≡ comes_to (spec_of cs s) (record { asked = a; requests = rs }) r (told new)
   unfolding part
   arrives g e =
       let spec : Spec = spec_of cs s in
       ap (λ x. comes_to spec (record { asked = a; requests = rs }) x (span spec (record { asked = a; requests = rs }) g (length (spec.part a rs).events))) (ap (λ (x : Seen). x.rest) so_far)
-      ∙ ap (λ l. comes_to spec (record { asked = a; requests = rs }) r l) (told-span (spec.part a rs).events old new g (ap (λ (x : Seen). x.events) so_far) e)
+      ∙ ap (λ l. comes_to spec (record { asked = a; requests = rs }) r l) (told-span (spec.part a rs).events (told old) (told new) g (ap (λ (x : Seen). told x.events) so_far ∙ map-append (λ x. x.1) old new) (e ∙ sym (length-map old (λ y. y.1))))
 
 -- A query that has given `old`, and reads on from the stops ps behind those before them.
-pub record Reads (cs : List Clause) (s : Settings) (a : Ask) (rs : List Request) (old : List Event) (before ps : StopList) (c : ℕ) : Type 0 where
+pub record Reads (cs : List Clause) (s : Settings) (a : Ask) (rs : List Request) (old : Steps) (before ps : StopList) (c : ℕ) : Type 0 where
   pub parted : stops_for cs s a rs ≡ before ++ ps
   pub leads : (qs : StopList) (j : ℕ) → HasEnd ⊤ (before ++ qs) (length (replies rs) + j) → HasEnd ⊤ qs j
   pub reads : (qs : StopList) (more : List Request) → seen (part_of size (stops_for cs s a rs ++ qs) (chunk_of s a) [] (rs ++ more)) ≡ adds old (seen (part_of size (ps ++ qs) c [] more))
 
-module _ (cs : List Clause) (s : Settings) (a : Ask) (rs : List Request) (old : List Event) (before ps : StopList) (c : ℕ) (h : Reads cs s a rs old before ps c) (p : Piece) (e : p ≡ piece_of size c ps []) where
+module _ (cs : List Clause) (s : Settings) (a : Ask) (rs : List Request) (old : Steps) (before ps : StopList) (c : ℕ) (h : Reads cs s a rs old before ps c) (p : Piece) (e : p ≡ piece_of size c ps []) where
   lasts : HasEnd ⊤ ps 0
   lasts =
       let all : HasEnd ⊤ (stops_for cs s a rs) (length (replies rs)) = query_ends ⊤ (fits quoted) (world_of cs (replies rs) s.limit) a.goal a.template (λ x y. tt) in
@@ -183,7 +184,7 @@ module _ (cs : List Clause) (s : Settings) (q : kept.Query) (read : IsRead cs s 
       let same : new_stops ≡ old_stops = ap (λ ts. stops (fits quoted) (world_of cs ts s.limit) q.ask.goal q.ask.template) (same_replies q.requests x (sym e)) in
       record { more = []; all = same ∙ sym (append-nil old_stops); left_are = f ∙ sym (append-nil q.run.left.items); found_is = g ∙ read.counted ∙ ap length (sym same) }
 
-  abbrev pub before_it : List Event
+  abbrev pub before_it : Steps
   before_it = (seen (part_of size old_stops (chunk_of s q.ask) [] q.requests)).events
 
   further_reads : fit q.rest x ≡ GoesOn → (left : StopList) (found : ℕ) → Follows cs s q.ask q.requests x q.run.left.items left found →
@@ -216,12 +217,12 @@ module _ (cs : List Clause) (s : Settings) (q : kept.Query) (read : IsRead cs s 
   pub stays_read : p.rest ≢ Over → IsReadAt cs s q.ask rs c p.rest found p.left
   stays_read n = is_read cs s q.ask rs (before_it cs s q read x) read.before left c from p p_is n found (after.found_is ∙ ap (λ l. length (stops_for cs s q.ask l)) (sym rs_are))
 
-  pub went_on : comes_to (spec_of cs s) (record { asked = q.ask; requests = rs }) p.rest p.events ≡ gives_all_at (spec_of cs s) (In (further (query_at q) x) (length (events_of (spec_of cs s) (query_at q)))) []
+  pub went_on : comes_to (spec_of cs s) (record { asked = q.ask; requests = rs }) p.rest (told p.events) ≡ gives_all_at (spec_of cs s) (In (further (query_at q) x) (length (events_of (spec_of cs s) (query_at q)))) []
   unfolding part
   went_on =
       let spec : Spec = spec_of cs s in
       let g : ℕ = length (events_of spec (query_at q)) in
-      sym (arrives cs s q.ask rs (before_it cs s q read x) p.events p.rest p.left c (comes cs s q.ask rs (before_it cs s q read x) read.before left c from p p_is) g (sym (length-map (events_of spec (query_at q)) (λ y. y.1))))
+      sym (arrives cs s q.ask rs (before_it cs s q read x) p.events p.rest p.left c (comes cs s q.ask rs (before_it cs s q read x) read.before left c from p p_is) g refl)
       ∙ ap (λ l. gives_all_at spec (In (record { asked = q.ask; requests = l }) g) []) rs_are
 
 -- ---- what a request does to a query that rests

@@ -1,14 +1,20 @@
 -- Laws of the events of a query.
-use Rattle.std.specs.Prelude.{◌≡◌, ◌≢◌, ℕ, Bool, true, false, List, [], ◌∷◌, ◌++◌}
+use Rattle.std.specs.Prelude.{◌≡◌, ◌≢◌, ℕ, ◌≤◌, Bool, true, false, List, [], ◌∷◌, ◌++◌, None, AllPairs}
 use Rattle.term_core.specs.declared.pi.Pi.{Pi}
 use Rattle.term_core.specs.Tree.{Tree}
+use Rattle.program.specs.Clauses.{Clause}
 use Rattle.solve_model.specs.Run.{World, Outside, query}
+use Rattle.solve_model.specs.Trace.{world_of}
 use Rattle.solve_model.specs.Laws.{widened}
+use Rattle.sandbox_walk.specs.Keeping.{KeepsSandbox}
 use Rattle.event_core.specs.declared.stop.Stop.{Stop}
 use Rattle.event_core.specs.declared.stop.Stop.TheVariants as stop
+use Rattle.event_core.specs.declared.request.Ask.{Ask}
 use Rattle.event_core.specs.declared.request.Request.{Request}
+use Rattle.event_core.specs.declared.settings.Settings.{Settings}
 use Rattle.event_core.specs.Stops.{stops}
 use Rattle.event_core.specs.Parts.{part_of, part, replies}
+use Rattle.event_core.specs.Refusals.{refusal_of}
 use Rattle.event_core.specs.Summaries.{summary, IsComplete}
 
 -- xs begins ys
@@ -46,6 +52,11 @@ StepsOnlyAdd =
 abbrev pub StaysInside : World → (goal template : Tree) → Type 0
 StaysInside w g t = (i : Pi) → (query w g t).end ≢ Outside i
 
+-- The steps of a query's events never fall from the first to the last.
+abbrev pub StepsNeverFall : Type 0
+StepsNeverFall =
+    (w : World) (fits : Tree → Bool) (size : Tree → ℕ) (g t : Tree) (c : ℕ) (rs : List Request) → AllPairs (λ x y. x.0 ≤ y.0) (part w fits size g t c rs).events
+
 -- the world with the replies that these requests bring
 abbrev pub replying : World → List Request → World
 replying w rs = record w { replies = replies rs }
@@ -63,3 +74,8 @@ abbrev pub EnoughCanBeAsked : Type 0
 EnoughCanBeAsked =
     (w : World) (fits : Tree → Bool) (size : Tree → ℕ) (g t : Tree) (c : ℕ) → StaysInside w g t →
     (rs : List Request) × (replies rs ≡ w.replies) × IsComplete (part w fits size g t c rs)
+
+-- Over a program that keeps to the sandbox no goal that may be asked reaches outside, for each limit of steps and whatever is replied.
+abbrev pub AskedGoalsStayInside : Type 0
+AskedGoalsStayInside =
+    (cs : List Clause) (s : Settings) (a : Ask) → KeepsSandbox cs → refusal_of cs a ≡ None → (rs : List Request) → StaysInside (replying (world_of cs [] s.limit) rs) a.goal a.template

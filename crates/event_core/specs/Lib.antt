@@ -6,7 +6,9 @@ pub mod Lines
 pub mod Parts
 pub mod Pengines
 pub mod Pieces
+pub mod Reaching
 pub mod Reads
+pub mod Refusals
 pub mod Requests
 pub mod Standing
 pub mod Stops

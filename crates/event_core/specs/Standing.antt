@@ -1,5 +1,5 @@
 -- Where a pengine stands, as the code keeps it.
-use Rattle.std.specs.Prelude.{◌≡◌, ◌≢◌, ℕ, suc, ◌+◌, ◌-◌, ◌==◌, Bool, true, false, if◌then◌else◌, List, [], ◌∷◌, ◌++◌, length, drop, None, ⊤}
+use Rattle.std.specs.Prelude.{◌≡◌, ◌≢◌, ℕ, suc, ◌+◌, ◌-◌, ◌==◌, Bool, true, false, if◌then◌else◌, List, [], ◌∷◌, ◌++◌, length, drop, ⊤}
 use Rattle.program.specs.Clauses.{Clause}
 use Rattle.solve_model.specs.Trace.{world_of}
 use Rattle.event_core.specs.declared.request.Ask.{Ask}
@@ -18,6 +18,7 @@ use Rattle.event_core.specs.Stops.{stops}
 use Rattle.event_core.specs.Endings.{HasEnd}
 use Rattle.event_core.specs.Parts.{part, part_of, replies}
 use Rattle.event_core.specs.Pieces.{resumed, seen, adds}
+use Rattle.event_core.specs.Refusals.{refusal_of}
 use Rattle.event_core.specs.Full.{Spec, Query, events_of, Place, Free, In, Closed, Reading, at}
 
 abbrev pub query_at : kept.Query → Query
@@ -76,10 +77,10 @@ Stands cs s place.Free = ⊤
 Stands cs s (place.Asked q) = IsRead cs s q × (q.rest ≢ Over)
 Stands cs s place.Closed = ⊤
 
--- What a pengine over these clauses is. No goal is refused, since there is no sandbox yet.
+-- What a pengine over these clauses is.
 abbrev pub spec_of : List Clause → Settings → Spec
 spec_of cs s = record {
   destroys = s.destroys;
-  refusal = λ a. None;
+  refusal = refusal_of cs;
   part = λ a rs. part (world_of cs [] s.limit) (fits quoted) (text_size quoted) a.goal a.template (chunk_of s a) rs;
 }

@@ -27,6 +27,14 @@ end_stop ended.Waits = None
 end_stop ended.Spent = Some stop.Limit
 end_stop (ended.Outside i) = Some (stop.Outside i)
 
+-- whether the query ended because its steps were used up
+abbrev pub is_spent : TraceEnd → Bool
+is_spent ended.Failed = false
+is_spent (ended.Thrown b) = false
+is_spent ended.Waits = false
+is_spent ended.Spent = true
+is_spent (ended.Outside i) = false
+
 -- the last stop, at the step where the query ended
 abbrev pub at_end : ℕ → Option Stop → List (ℕ × Stop)
 at_end k None = []

@@ -4,18 +4,20 @@ ghost use Rattle.event_core.specs.Requests.{fit};
 use crate::request::Request;
 use crate::rest::Rest;
 
-// What a request does to a query that rests.
+/// What a request does to a query that rests.
 #[derive(Clone, Copy, Debug, Drop, PartialEq, Eq)]
-pub(crate) enum Fit {
-    // The query goes on.
+pub enum Fit {
+    /// The query goes on.
     GoesOn,
-    // The query is ended.
+    /// The query is ended.
     Stops,
-    // The request doesn't fit.
+    /// The request doesn't fit.
     Misfit,
 }
 
-pub(crate) fn fit_of(rest: Rest, request: &Request) -> Fit
+/// What a request does where a query rests: `next` goes on and `stop` ends at `More`, `respond` goes on at `Prompting`, and nothing else
+/// fits.
+pub fn fit_of(rest: Rest, request: &Request) -> Fit
     ensures { result ≡ fit rest request.now }
 {
     match (rest, request) {

@@ -8,6 +8,7 @@ use crate::request::Request;
 use crate::settings::Settings;
 use program::Program;
 use std::alloc::Global;
+use std::sync::Arc;
 use term_core::{List, Memory};
 
 // Puts these events behind the others.
@@ -23,11 +24,11 @@ fn append(events: &mut List<Event>, more: List<Event>) -> Result<(), Memory>
 /// All events of a pengine that is sent these requests: the list that resolution defines, from `create` on.
 pub fn all_events(
     alloc: Global,
-    program: Program,
+    program: Arc<Program>,
     settings: Settings,
     requests: Vec<Request>,
 ) -> Result<List<Event>, Memory>
-    ensures { IfOk result (λ es. es ≡ full (spec_of program settings) (sends requests.items)) }
+    ensures { IfOk result (λ es. es ≡ full (spec_of program.value settings) (sends requests.items)) }
 {
     let mut pengine = Pengine::new(program, settings);
     let mut events = List::new(alloc);

@@ -1,5 +1,5 @@
 // Laws that hold of the events of every query.
-ghost use Rattle.event_core.specs.Laws.{FurtherOnlyAdds, RequestsOnlyAdd, StepsOnlyAdd, ChunksDontMatter, EnoughCanBeAsked};
+ghost use Rattle.event_core.specs.Laws.{FurtherOnlyAdds, RequestsOnlyAdd, StepsOnlyAdd, ChunksDontMatter, EnoughCanBeAsked, StepsNeverFall, AskedGoalsStayInside};
 
 /// Further requests and further stops only add: the events that were given stay.
 pub fn further_only_adds()
@@ -24,4 +24,14 @@ pub fn chunks_dont_matter()
 /// For each size of the chunks and all replies there are requests that ask enough: the query comes to its end, or to a prompt for which no reply is left.
 pub fn enough_can_be_asked()
     ensures { EnoughCanBeAsked }
+{}
+
+/// The steps of a query's events never fall from the first to the last.
+pub fn steps_never_fall()
+    ensures { StepsNeverFall }
+{}
+
+/// Over a program that keeps to the sandbox no goal that may be asked reaches outside, for each limit of steps and whatever is replied.
+pub fn asked_goals_stay_inside()
+    ensures { AskedGoalsStayInside }
 {}

@@ -11,6 +11,8 @@ mod pengine;
 mod piece;
 mod print;
 mod query;
+mod reached;
+mod refused;
 mod request;
 mod rest;
 mod settings;
@@ -20,13 +22,17 @@ mod stops;
 mod text;
 
 pub use event::{Event, Kind};
+pub use fit::{Fit, fit_of};
 pub use full::all_events;
 pub use laws::{
-    chunks_dont_matter, enough_can_be_asked, further_only_adds, requests_only_add, steps_only_add,
+    asked_goals_stay_inside, chunks_dont_matter, enough_can_be_asked, further_only_adds,
+    requests_only_add, steps_never_fall, steps_only_add,
 };
 pub use limits::{CHUNK_BYTES, DEFAULT_LIMIT, MAX_DEPTH, MAX_LIMIT, MAX_TEXT};
 pub use pengine::Pengine;
 pub use print::line;
+pub use reached::{Reached, reach};
+pub use refused::refusal;
 pub use request::{Ask, Request};
 pub use rest::Rest;
 pub use settings::Settings;

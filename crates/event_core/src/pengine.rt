@@ -3,18 +3,21 @@ ghost use Rattle.program.specs.Clauses.{Clause};
 ghost use Rattle.event_core.specs.declared.event.Event.TheVariants as event;
 ghost use Rattle.event_core.specs.declared.query.Place.TheVariants.{Asked};
 ghost use Rattle.event_core.specs.declared.rest.Rest.TheVariants as rest;
-ghost use Rattle.event_core.specs.Full.{Spec, Free, Closed, ByAbort, ByDestroy, at, step, strikes_at};
+ghost use Rattle.event_core.specs.Full.{Spec, Free, Closed, ByAbort, ByDestroy, at, asks, gives_all, step, strikes_at};
+ghost use Rattle.event_core.specs.Refusals.{refusal_of};
 ghost use Rattle.event_core.specs.Standing.{place_at, reading_at, IsRead, Stands, spec_of};
 
 use crate::event::{Event, Kind};
 use crate::fit::{Fit, fit_of};
 use crate::query::{Outcome, Place, Query, begin, end_with};
-use crate::request::Request;
+use crate::refused::refusal;
+use crate::request::{Ask, Request};
 use crate::settings::Settings;
 use program::Program;
 use std::alloc::Global;
 use std::marker::Model;
 use std::mem;
+use std::sync::Arc;
 use term_core::{List, Memory};
 
 // One event, which leaves the pengine where it is.
@@ -27,18 +30,34 @@ fn tell(alloc: Global, place: Place, event: Event) -> Result<Outcome, Memory>
     Ok(Outcome { place, events })
 }
 
+// A query is asked: it begins, unless the sandbox refuses its goal.
+fn ask(
+    alloc: Global,
+    program: &Arc<Program>,
+    settings: Settings,
+    ask: Ask,
+) -> Result<Outcome, Memory>
+    ensures reading { IfOk result (λ o. reading_at (spec_of program.now.value settings) o ≡ gives_all (spec_of program.now.value settings) (asks (spec_of program.now.value settings) ask (refusal_of program.now.value ask) [])) }
+    ensures stands { IfOk result (λ o. Stands program.now.value settings o.place) }
+{
+    match refusal(alloc, program, &ask)? {
+        Some(error) => end_with(alloc, settings.destroys, Event::Error(error)),
+        None => begin(alloc, program, settings, ask),
+    }
+}
+
 // What a request does outside of a query.
 fn start(
     alloc: Global,
-    program: &Program,
+    program: &Arc<Program>,
     settings: Settings,
     request: Request,
 ) -> Result<Outcome, Memory>
-    ensures reading { IfOk result (λ o. reading_at (spec_of program.now settings) o ≡ step (spec_of program.now settings) request Free) }
-    ensures stands { IfOk result (λ o. Stands program.now settings o.place) }
+    ensures reading { IfOk result (λ o. reading_at (spec_of program.now.value settings) o ≡ step (spec_of program.now.value settings) request Free) }
+    ensures stands { IfOk result (λ o. Stands program.now.value settings o.place) }
 {
     let outcome = match request {
-        Request::Ask(ask) => begin(alloc, program, settings, ask)?,
+        Request::Ask(query) => ask(alloc, program, settings, query)?,
         Request::Next(_) => tell(alloc, Place::Free, Event::Protocol(Kind::Next))?,
         Request::Stop => tell(alloc, Place::Free, Event::Protocol(Kind::Stop))?,
         Request::Respond(_) => tell(alloc, Place::Free, Event::Protocol(Kind::Respond))?,
@@ -99,7 +118,7 @@ fn break_off(alloc: Global, destroys: bool, place: Place) -> Result<Outcome, Mem
 /// The event `create` stands before all that its requests bring.
 #[derive(Debug, Drop)]
 pub struct Pengine {
-    program: Program,
+    program: Arc<Program>,
     settings: Settings,
     place: Place,
 }
@@ -115,15 +134,15 @@ impl Model for Pengine {
 
     ghost use Rattle.event_core.specs.Standing.{place_at, spec_of, Stands};
 
-    ghost view = { λ p. record { clauses = p.program; settings = p.settings; place = place_at (spec_of p.program p.settings) p.place } };
+    ghost view = { λ p. record { clauses = p.program.value; settings = p.settings; place = place_at (spec_of p.program.value p.settings) p.place } };
 
-    ghost invariant = { λ p. Stands p.program p.settings p.place };
+    ghost invariant = { λ p. Stands p.program.value p.settings p.place };
 }
 
 impl Pengine {
     /// A pengine outside of a query.
-    pub fn new(program: Program, settings: Settings) -> Pengine
-        ensures { result ≡ record { clauses = program; settings = settings; place = Free } }
+    pub fn new(program: Arc<Program>, settings: Settings) -> Pengine
+        ensures { result ≡ record { clauses = program.value; settings = settings; place = Free } }
     {
         Pengine {
             program,

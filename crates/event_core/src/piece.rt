@@ -15,18 +15,20 @@ use std::alloc::Global;
 use std::collections::VecDeque;
 use term_core::{List, Memory, Term};
 
-// The events up to a rest, the rest, and the stops that are left there, each with its step.
+// The events up to a rest, the rest, and the stops that are left there. Each event and each stop stands with its step.
 #[derive(Debug, Drop)]
 pub(crate) struct Piece {
-    pub(crate) events: List<Event>,
+    pub(crate) events: List<(u64, Event)>,
     pub(crate) rest: Rest,
     pub(crate) left: VecDeque<(u64, Stop)>,
+    // Whether the stops ended before a rest.
+    pub(crate) ran_out: bool,
 }
 
 // A piece that is being read: the events so far, the open chunk, and the stops that are left.
 #[derive(Debug, Drop)]
 pub(crate) struct Reading {
-    pub(crate) events: List<Event>,
+    pub(crate) events: List<(u64, Event)>,
     pub(crate) held: Chunk,
     pub(crate) left: VecDeque<(u64, Stop)>,
 }
@@ -40,21 +42,34 @@ pub(crate) enum Progress {
 
 // The query rests after this event.
 fn close(
-    mut events: List<Event>,
+    mut events: List<(u64, Event)>,
+    step: u64,
     last: Event,
     rest: Rest,
     left: VecDeque<(u64, Stop)>,
 ) -> Result<Piece, Memory>
-    ensures { IfOk result (λ p. piece_at p ≡ telling events (closes_with last rest left.items)) }
+    ensures { IfOk result (λ p. piece_at p ≡ telling events (closes_with step last rest left.items)) }
 {
-    events.push(last)?;
-    Ok(Piece { events, rest, left })
+    events.push((step, last))?;
+    Ok(Piece {
+        events,
+        rest,
+        left,
+        ran_out: false,
+    })
 }
 
 impl Reading {
     // An answer joins the chunk, which is closed where it is the last one or the chunk is full.
-    fn answer(self, alloc: Global, chunk: u32, term: Term, more: bool) -> Result<Progress, Memory>
-        ensures piece { IfOk result (λ p. whole chunk p ≡ telling self.events (answered (text_size quoted) chunk (rest_of chunk self.left.items) (self.held ++ term ∷ []) more self.left.items)) }
+    fn answer(
+        self,
+        alloc: Global,
+        chunk: u32,
+        step: u64,
+        term: Term,
+        more: bool,
+    ) -> Result<Progress, Memory>
+        ensures piece { IfOk result (λ p. whole chunk p ≡ telling self.events (answered (text_size quoted) chunk step (rest_of chunk self.left.items) (self.held ++ term ∷ []) more self.left.items)) }
         ensures left { IfOk result (LeavesAll self.left.items) }
     {
         let Reading { events, held, left } = self;
@@ -62,12 +77,18 @@ impl Reading {
         if !more {
             let answers = held.into_answers();
             let last = Event::Success { answers, more };
-            let piece = close(events, last, Rest::Over, VecDeque::new(alloc))?;
+            let piece = close(events, step, last, Rest::Over, VecDeque::new(alloc))?;
             return Ok(Progress::Rests(piece));
         }
         if held.is_full(chunk) {
             let answers = held.into_answers();
-            let piece = close(events, Event::Success { answers, more }, Rest::More, left)?;
+            let piece = close(
+                events,
+                step,
+                Event::Success { answers, more },
+                Rest::More,
+                left,
+            )?;
             return Ok(Progress::Rests(piece));
         }
         Ok(Progress::GoesOn(Reading { events, held, left }))
@@ -75,7 +96,7 @@ impl Reading {
 
     // A late stop closes the chunk, and is left for later.
     fn wait(self, step: u64, stop: Stop) -> Result<Piece, Memory>
-        ensures { IfOk result (λ p. piece_at p ≡ telling self.events (closes_with (event.Success self.held true) More ((step, stop) ∷ self.left.items))) }
+        ensures { IfOk result (λ p. piece_at p ≡ telling self.events (closes_with step (event.Success self.held true) More ((step, stop) ∷ self.left.items))) }
     {
         let Reading {
             events,
@@ -88,12 +109,12 @@ impl Reading {
             answers,
             more: true,
         };
-        close(events, last, Rest::More, left)
+        close(events, step, last, Rest::More, left)
     }
 
     // What comes of a query without a further answer.
-    fn fail(self, alloc: Global) -> Result<Piece, Memory>
-        ensures { IfOk result (λ p. piece_at p ≡ telling self.events (failed self.held)) }
+    fn fail(self, alloc: Global, step: u64) -> Result<Piece, Memory>
+        ensures { IfOk result (λ p. piece_at p ≡ telling self.events (failed step self.held)) }
     {
         let Reading { events, held, left } = self;
         let last = if held.is_empty() {
@@ -104,12 +125,12 @@ impl Reading {
                 more: false,
             }
         };
-        close(events, last, Rest::Over, VecDeque::new(alloc))
+        close(events, step, last, Rest::Over, VecDeque::new(alloc))
     }
 
     // An output leaves an open chunk open.
-    fn output(self, term: Term) -> Result<Progress, Memory>
-        ensures piece { IfOk result (λ p. (c : ℕ) → whole c p ≡ telling self.events (telling (event.Output term ∷ []) (rest_of c self.left.items self.held))) }
+    fn output(self, step: u64, term: Term) -> Result<Progress, Memory>
+        ensures piece { IfOk result (λ p. (c : ℕ) → whole c p ≡ telling self.events (telling ((step, event.Output term) ∷ []) (rest_of c self.left.items self.held))) }
         ensures left { IfOk result (LeavesAll self.left.items) }
     {
         let Reading {
@@ -117,7 +138,7 @@ impl Reading {
             held,
             left,
         } = self;
-        events.push(Event::Output(term))?;
+        events.push((step, Event::Output(term)))?;
         Ok(Progress::GoesOn(Reading { events, held, left }))
     }
 
@@ -129,6 +150,7 @@ impl Reading {
             events: self.events,
             rest: Rest::Over,
             left: VecDeque::new(alloc),
+            ran_out: false,
         }
     }
 
@@ -140,23 +162,36 @@ impl Reading {
     {
         let is_open = !self.held.is_empty();
         let piece = match stop {
-            Stop::Found(term, more) => return self.answer(alloc, chunk, term, more),
-            Stop::Output(term) => return self.output(term),
-            Stop::NoMore => self.fail(alloc)?,
+            Stop::Found(term, more) => return self.answer(alloc, chunk, step, term, more),
+            Stop::Output(term) => return self.output(step, term),
+            Stop::NoMore => self.fail(alloc, step)?,
             Stop::Outside(_) => self.over(alloc),
             Stop::Prompt(term) if !is_open => {
-                close(self.events, Event::Prompt(term), Rest::Prompting, self.left)?
+                close(
+                    self.events,
+                    step,
+                    Event::Prompt(term),
+                    Rest::Prompting,
+                    self.left,
+                )?
             }
             Stop::Ball(ball) if !is_open => {
                 close(
                     self.events,
+                    step,
                     Event::Error(ball),
                     Rest::Over,
                     VecDeque::new(alloc),
                 )?
             }
             Stop::Limit if !is_open => {
-                close(self.events, Event::Limit, Rest::Over, VecDeque::new(alloc))?
+                close(
+                    self.events,
+                    step,
+                    Event::Limit,
+                    Rest::Over,
+                    VecDeque::new(alloc),
+                )?
             }
             late => self.wait(step, late)?,
         };
@@ -164,16 +199,17 @@ impl Reading {
     }
 }
 
-// The piece of these stops, where the chunk is `chunk`.
+// The piece of these stops, where the chunk is `chunk`, behind the events that came before.
 pub(crate) fn read_piece(
     alloc: Global,
+    events: List<(u64, Event)>,
     chunk: u32,
     left: VecDeque<(u64, Stop)>,
 ) -> Result<Piece, Memory>
-    ensures { IfOk result (λ p. piece_at p ≡ rest_of chunk left.items []) }
+    ensures { IfOk result (λ p. piece_at p ≡ telling events (rest_of chunk left.items [])) }
 {
     let mut reading = Reading {
-        events: List::new(alloc),
+        events,
         held: Chunk::new(alloc),
         left,
     };
@@ -187,5 +223,6 @@ pub(crate) fn read_piece(
         events: reading.events,
         rest: Rest::Prompting,
         left: reading.left,
+        ran_out: true,
     })
 }

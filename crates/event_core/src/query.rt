@@ -1,5 +1,5 @@
 // A query that rests, and the places where a pengine rests.
-ghost use Rattle.std.specs.Prelude.{◌≡◌, ◌≢◌, List as list, [], ◌∷◌, IfOk, length};
+ghost use Rattle.std.specs.Prelude.{◌≡◌, ◌≢◌, List as list, [], ◌∷◌, IfOk, length, map};
 ghost use Rattle.program.specs.Clauses.{Clause};
 ghost use Rattle.event_core.specs.declared.rest.Rest.TheVariants as rest;
 ghost use Rattle.event_core.specs.declared.fit.Fit.TheVariants.{GoesOn};
@@ -71,6 +71,17 @@ pub(crate) fn end_with(alloc: Global, destroys: bool, event: Event) -> Result<Ou
     Ok(outcome)
 }
 
+// The events without their steps.
+fn told(alloc: Global, events: List<(u64, Event)>) -> Result<List<Event>, Memory>
+    ensures { IfOk result (λ es. es ≡ map (λ x. x.1) events) }
+{
+    let mut told = List::new(alloc);
+    for (_, event) in events.into_vec() {
+        told.push(event)?;
+    }
+    Ok(told)
+}
+
 impl Query {
     // The query rests, or it has ended.
     pub(crate) fn settle(self, destroys: bool, events: List<Event>) -> Result<Outcome, Memory>
@@ -116,7 +127,13 @@ impl Query {
             requests.as_slice(),
             is_reply,
         )?;
-        let Piece { events, rest, left } = read_piece(alloc, chunk, left)?;
+        let Piece {
+            events,
+            rest,
+            left,
+            ..
+        } = read_piece(alloc, List::new(alloc), chunk, left)?;
+        let given = told(alloc, events)?;
         let query = Query {
             ask,
             requests,
@@ -124,13 +141,13 @@ impl Query {
             rest,
             run: Run { found, left },
         };
-        let outcome = query.settle(settings.destroys, events)?;
+        let outcome = query.settle(settings.destroys, given)?;
         Ok(outcome)
     }
 }
 
 // How many answers an event of a query holds.
-fn first_chunk(settings: Settings, ask: &Ask) -> u32
+pub(crate) fn first_chunk(settings: Settings, ask: &Ask) -> u32
     ensures { result ≡ chunk_of settings ask.now }
 {
     if ask.chunk == 0 {
@@ -152,7 +169,13 @@ pub(crate) fn begin(
 {
     let chunk = first_chunk(settings, &ask);
     let Run { found, left } = first_run(alloc, program, settings, &ask, &[])?;
-    let Piece { events, rest, left } = read_piece(alloc, chunk, left)?;
+    let Piece {
+        events,
+        rest,
+        left,
+        ..
+    } = read_piece(alloc, List::new(alloc), chunk, left)?;
+    let given = told(alloc, events)?;
     let query = Query {
         ask,
         requests: List::new(alloc),
@@ -160,6 +183,6 @@ pub(crate) fn begin(
         rest,
         run: Run { found, left },
     };
-    let outcome = query.settle(settings.destroys, events)?;
+    let outcome = query.settle(settings.destroys, given)?;
     Ok(outcome)
 }

@@ -43,8 +43,8 @@ impl Request {
         }
     }
 
-    // The chunk that holds after the request, where `chunk` held before.
-    pub(crate) fn chunk_after(&self, chunk: u32) -> u32
+    /// How many answers an event holds after the request, where it held `chunk` before.
+    pub fn chunk_after(&self, chunk: u32) -> u32
         ensures { result ≡ chunk_after self.now chunk }
     {
         match self {
@@ -53,8 +53,8 @@ impl Request {
         }
     }
 
-    // Whether it brings a reply.
-    pub(crate) fn is_reply(&self) -> bool
+    /// Whether it brings a reply.
+    pub fn is_reply(&self) -> bool
         ensures { result ≡ is_reply self.now }
     {
         matches!(self, Request::Respond(_))

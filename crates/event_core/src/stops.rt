@@ -1,10 +1,13 @@
 // The stops of a query, read from its trace.
-ghost use Rattle.std.specs.Prelude.{◌≡◌, ℕ, List as list, true, false, [], ◌∷◌, ◌++◌, length, drop, IfOk, OnOk, if◌then◌else◌};
+ghost use Rattle.std.specs.Prelude.{◌≡◌, ◌<◌, ◌≤◌, ◌&&◌, ℕ, min, nat_lt, All, None, List as list, true, false, [], ◌∷◌, ◌++◌, length, drop, IfOk, OnOk, if◌then◌else◌};
+ghost use Rattle.solve_model.specs.Run.{query};
+ghost use Rattle.solve_model.specs.Trace.{traced as traced_run, world_of};
 ghost use Rattle.event_core.specs.declared.stop.Stop.TheVariants as stop;
 ghost use Rattle.event_core.specs.Texts.{quoted};
 ghost use Rattle.event_core.specs.Fits.{fits};
-ghost use Rattle.event_core.specs.Stops.{is_followed, mark_stop, at_end, end_stop, stops_of, resource_error, stop_fits, cut_at, trace_stops};
+ghost use Rattle.event_core.specs.Stops.{is_followed, mark_stop, at_end, end_stop, stops_of, resource_error, stop_fits, cut_at, trace_stops, is_spent};
 ghost use Rattle.event_core.specs.Parts.{replies};
+ghost use Rattle.event_core.specs.Reaching.{IsBegun};
 ghost use Rattle.event_core.specs.Standing.{stops_for, left_after};
 
 use crate::request::{Ask, Request};
@@ -100,16 +103,16 @@ fn add_mark(
     Ok(fits && more)
 }
 
-// Puts the stop of an end, where it has one, behind the others.
+// Puts the stop of an end, where there is one, behind the others.
 fn add_end(
     alloc: Global,
     stops: &mut VecDeque<(u64, Stop)>,
     step: u64,
-    end: TraceEnd,
+    end: Option<Stop>,
 ) -> Result<(), Memory>
-    ensures { OnOk result (stops.new.items ≡ stops.old.items ++ cut_at (fits quoted) (at_end step (end_stop end))) }
+    ensures { OnOk result (stops.new.items ≡ stops.old.items ++ cut_at (fits quoted) (at_end step end)) }
 {
-    if let Some(told) = stop_of_end(alloc, end)? {
+    if let Some(told) = end {
         add(alloc, stops, step, told)?;
     }
     Ok(())
@@ -132,13 +135,24 @@ fn add_marks(
     Ok(true)
 }
 
-// The stops of a trace, each with its step.
-fn read_trace(alloc: Global, trace: Trace) -> Result<VecDeque<(u64, Stop)>, Memory>
-    ensures { IfOk result (λ v. v.items ≡ cut_at (fits quoted) (trace_stops trace)) }
+// The stops of a trace, each with its step. Where the trace is cut off, the stop at its end is left out.
+fn read_trace(alloc: Global, trace: Trace, is_cut: bool) -> Result<VecDeque<(u64, Stop)>, Memory>
+    ensures { IfOk result (λ v. v.items ≡ cut_at (fits quoted) (stops_of trace.marks (at_end trace.steps (if is_cut then None else end_stop trace.end)))) }
 {
+    let Trace {
+        marks,
+        steps,
+        end,
+        ..
+    } = trace;
+    let end = if is_cut {
+        None
+    } else {
+        stop_of_end(alloc, end)?
+    };
     let mut stops = VecDeque::new(alloc);
-    if add_marks(alloc, &mut stops, trace.marks)? {
-        add_end(alloc, &mut stops, trace.steps, trace.end)?;
+    if add_marks(alloc, &mut stops, marks)? {
+        add_end(alloc, &mut stops, steps, end)?;
     }
     Ok(stops)
 }
@@ -171,6 +185,27 @@ fn replies_of(alloc: Global, requests: &[Request]) -> Result<Vec<Term>, Memory>
     Ok(found)
 }
 
+// The trace of a query for so many steps, with the replies of these requests.
+fn traced(
+    alloc: Global,
+    program: &Program,
+    ask: &Ask,
+    requests: &[Request],
+    limit: u64,
+) -> Result<Trace, Memory>
+    ensures { IfOk result (λ t. t ≡ traced_run ask.now.template (query (world_of program.now (replies requests.now) limit) ask.now.goal ask.now.template)) }
+{
+    let replies = replies_of(alloc, requests)?;
+    trace(
+        alloc,
+        program,
+        &ask.goal,
+        &ask.template,
+        replies.as_slice(),
+        limit,
+    )
+}
+
 // The stops of a query from its first step on, with the replies of these requests.
 pub(crate) fn first_run(
     alloc: Global,
@@ -182,18 +217,49 @@ pub(crate) fn first_run(
     ensures left { IfOk result (λ r. r.left.items ≡ stops_for program.now settings ask.now requests.now) }
     ensures found { IfOk result (λ r. r.found ≡ length (stops_for program.now settings ask.now requests.now)) }
 {
-    let replies = replies_of(alloc, requests)?;
-    let trace = trace(
-        alloc,
-        program,
-        &ask.goal,
-        &ask.template,
-        replies.as_slice(),
-        settings.limit,
-    )?;
-    let left = read_trace(alloc, trace)?;
+    let trace = traced(alloc, program, ask, requests, settings.limit)?;
+    let left = read_trace(alloc, trace, false)?;
     let found = left.len();
     Ok(Run { found, left })
+}
+
+// Whether a query that ended so after these steps goes on where it has its limit.
+fn is_cut_off(end: &TraceEnd, steps: u64, limit: u64) -> bool
+    ensures { result ≡ (nat_lt steps limit && is_spent end.now) }
+{
+    steps < limit && matches!(end, TraceEnd::Spent)
+}
+
+// The stops of a query as far as a number of steps reaches, and whether the query goes on behind them.
+#[derive(Debug, Drop)]
+pub(crate) struct Within {
+    pub(crate) stops: VecDeque<(u64, Stop)>,
+    pub(crate) goes_on: bool,
+}
+
+// The stops of a query as far as this many steps reach, with the replies of these requests.
+pub(crate) fn stops_within(
+    alloc: Global,
+    program: &Program,
+    settings: Settings,
+    ask: &Ask,
+    requests: &[Request],
+    steps: u64,
+) -> Result<Within, Memory>
+    ensures whole { IfOk result (λ w. w.goes_on ≡ false → w.stops.items ≡ stops_for program.now settings ask.now requests.now) }
+    ensures fewer { IfOk result (λ w. w.goes_on ≡ true → steps < settings.limit) }
+    ensures begun { IfOk result (λ w. w.goes_on ≡ true → IsBegun steps w.stops.items (stops_for program.now settings ask.now requests.now)) }
+    ensures in_time { IfOk result (λ w. All (λ s. s.0 ≤ min steps settings.limit) w.stops.items) }
+{
+    let limit = steps.min(settings.limit);
+    let trace = traced(alloc, program, ask, requests, limit)?;
+    let goes_on = is_cut_off(&trace.end, steps, settings.limit);
+    if goes_on && trace.steps < steps {
+        // No run is cut off before it has made its steps.
+        return Err(Memory);
+    }
+    let stops = read_trace(alloc, trace, goes_on)?;
+    Ok(Within { stops, goes_on })
 }
 
 // The stops behind the first `read` ones.

@@ -1,2 +1,4 @@
+pub mod CommandWords
+pub mod Judging
 pub mod Lines
 pub mod Reading

@@ -1,3 +1,4 @@
+pub mod Checking
 pub mod Input
 pub mod Output
 pub mod Refusal

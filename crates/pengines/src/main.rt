@@ -4,6 +4,8 @@
 //! answers.
 #![tactic(auto)]
 
+mod checking;
+mod command;
 mod input;
 mod output;
 mod printing;
@@ -45,5 +47,7 @@ fn main(rt: HostRuntime) -> ExitCode {
 
 #[cfg(test)]
 mod goals;
+#[cfg(test)]
+mod sandboxing;
 #[cfg(test)]
 mod tests;

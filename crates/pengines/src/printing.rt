@@ -10,6 +10,7 @@ use request_text::{Script, Sent};
 use std::alloc::Global;
 use std::collections::VecDeque;
 use std::marker::Model;
+use std::sync::Arc;
 use term_core::{List, Memory};
 
 /// The events that what is sent brings, up to the next rest.
@@ -53,6 +54,7 @@ impl Printing {
             settings,
             lines,
         } = script;
+        let program = Arc::new(alloc, program)?;
         let mut waiting = VecDeque::new(alloc);
         waiting.push_back(Event::Create)?;
         Ok(Printing {

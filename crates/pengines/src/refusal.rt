@@ -1,7 +1,7 @@
-// Why a script is refused, in words.
+// Why a script, a source text or a goal is refused, in words.
 ghost use Rattle.std.specs.Prelude.{◌≡◌, ◌++◌, IfOk, OnOk, decimal};
 ghost use Rattle.pengines.specs.Output.{line};
-ghost use Rattle.pengines.specs.Refusal.{clause_of, source_text, clause_text, line_text, refusal_text};
+ghost use Rattle.pengines.specs.Refusal.{clause_of, source_text, clause_text, line_text, goal_text, refusal_text, text_of};
 
 use crate::output::with_line_end;
 use itoa::Buffer;
@@ -9,6 +9,47 @@ use program::ProgFault;
 use request_text::{ScriptFault, SpecFault, place_of};
 use std::alloc::Global;
 use term_core::Memory;
+
+/// Why a command's text is refused.
+#[derive(Debug, Drop)]
+pub enum Refusal {
+    /// It is no script, or no source text.
+    Script(ScriptFault),
+    /// The goal can't be read.
+    Goal {
+        /// The byte of the goal at which it can't be read further, from 0.
+        at: u64,
+    },
+    /// Want of memory.
+    Memory,
+}
+
+impl From<Memory> for Refusal {
+    ghost use Rattle.std.specs.Prelude.{◌≡◌};
+    ghost use Rattle.pengines.specs.declared.refusal.Refusal.TheVariants.{Memory as Starved};
+
+    ghost from_gives = { λ _ refusal. refusal ≡ Starved };
+
+    fn from(_: Memory) -> Refusal {
+        Refusal::Memory
+    }
+}
+
+impl From<ScriptFault> for Refusal {
+    ghost use Rattle.std.specs.Prelude.{◌≡◌};
+    ghost use Rattle.pengines.specs.Refusal.{script_refusal};
+
+    ghost from_gives = { λ fault refusal. refusal ≡ script_refusal fault };
+
+    fn from(fault: ScriptFault) -> Refusal {
+        match fault {
+            ScriptFault::Memory => Refusal::Memory,
+            ScriptFault::Utf8 { .. } | ScriptFault::Spec(_) | ScriptFault::Line { .. } => {
+                Refusal::Script(fault)
+            }
+        }
+    }
+}
 
 /// The number of the clause that is refused.
 fn clause_of(fault: &ProgFault) -> u64
@@ -52,6 +93,12 @@ fn clause_text(alloc: Global, clause: u64) -> Result<Vec<u8>, Memory>
     with_number(alloc, b"pengines: source refused at clause ", clause)
 }
 
+fn goal_text(alloc: Global, at: u64) -> Result<Vec<u8>, Memory>
+    ensures { IfOk result (λ t. t.items ≡ goal_text at) }
+{
+    with_number(alloc, b"pengines: goal refused at byte ", at)
+}
+
 fn line_text(alloc: Global, line: u64, at: u64) -> Result<Vec<u8>, Memory>
     ensures { IfOk result (λ t. t.items ≡ line_text line at) }
 {
@@ -69,6 +116,9 @@ fn refusal_text(alloc: Global, fault: &ScriptFault) -> Result<Vec<u8>, Memory>
         ScriptFault::Utf8 { at } => source_text(alloc, *at)?,
         ScriptFault::Spec(SpecFault::Source(fault)) => source_text(alloc, place_of(*fault))?,
         ScriptFault::Spec(SpecFault::Clause(fault)) => clause_text(alloc, clause_of(fault))?,
+        ScriptFault::Spec(SpecFault::Ask(fault) | SpecFault::Template(fault)) => {
+            goal_text(alloc, place_of(*fault))?
+        }
         ScriptFault::Line { line, at } => line_text(alloc, *line, *at)?,
         ScriptFault::Spec(SpecFault::Memory) | ScriptFault::Memory => {
             Vec::from_slice(alloc, b"pengines: no memory")?
@@ -77,10 +127,21 @@ fn refusal_text(alloc: Global, fault: &ScriptFault) -> Result<Vec<u8>, Memory>
     Ok(text)
 }
 
-/// The line that says why a script is refused.
-pub fn refusal_line(alloc: Global, fault: &ScriptFault) -> Result<Vec<u8>, Memory>
-    ensures { IfOk result (λ t. t.items ≡ line (refusal_text fault.now)) }
+/// The text that says why a command's text is refused.
+fn text_of(alloc: Global, refusal: &Refusal) -> Result<Vec<u8>, Memory>
+    ensures { IfOk result (λ t. t.items ≡ text_of refusal.now) }
 {
-    let text = refusal_text(alloc, fault)?;
+    match refusal {
+        Refusal::Script(fault) => refusal_text(alloc, fault),
+        Refusal::Goal { at } => goal_text(alloc, *at),
+        Refusal::Memory => Ok(Vec::from_slice(alloc, b"pengines: no memory")?),
+    }
+}
+
+/// The line that says why a command's text is refused.
+pub fn refusal_line(alloc: Global, refusal: &Refusal) -> Result<Vec<u8>, Memory>
+    ensures { IfOk result (λ t. t.items ≡ line (text_of refusal.now)) }
+{
+    let text = text_of(alloc, refusal)?;
     with_line_end(text)
 }

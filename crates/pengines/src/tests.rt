@@ -236,6 +236,88 @@ static CONTROL: [Case; 8] = [
     },
 ];
 
+/// Goals that may not be asked: the least predicate outside that is reached goes before an unbound goal, and that before a goal that is no body.
+static UNSAFE: [Case; 13] = [
+    Case {
+        name: "a predicate outside",
+        input: b"---\nask(halt)\n",
+        written: b"create\nerror(error(permission_error(call,sandboxed,halt/0),none))\ndestroy\n",
+        ..DONE
+    },
+    Case {
+        name: "a goal that is no body",
+        input: b"---\nask(call((a,1)))\n",
+        written: b"create\nerror(error(type_error(callable,(a,1)),none))\ndestroy\n",
+        ..DONE
+    },
+    Case {
+        name: "a goal that is bound later",
+        input: b"---\nask((G=halt,call(G)))\n",
+        written: b"create\nerror(error(instantiation_error,none))\ndestroy\n",
+        ..DONE
+    },
+    Case {
+        name: "a pengine that stays after a refused ask",
+        input: b"---\ncreate([destroy(false)])\nask(halt)\nnext\nask(true)\n",
+        written: b"create\nerror(error(permission_error(call,sandboxed,halt/0),none))\nerror(protocol_error(next))\nsuccess([true],false)\n",
+        ..DONE
+    },
+    Case {
+        name: "a clause that reaches outside",
+        input: b"p :- q. q :- fail, halt.\n---\nask(p)\n",
+        written: b"create\nerror(error(permission_error(call,sandboxed,halt/0),none))\ndestroy\n",
+        ..DONE
+    },
+    Case {
+        name: "a clause that isn't reached",
+        input: b"p. q :- halt.\n---\nask(p)\n",
+        written: b"create\nsuccess([p],false)\ndestroy\n",
+        ..DONE
+    },
+    Case {
+        name: "the least of two predicates outside",
+        input: b"p :- read_file(a, X), halt(1). p :- halt.\n---\nask(p)\n",
+        written: b"create\nerror(error(permission_error(call,sandboxed,halt/0),none))\ndestroy\n",
+        ..DONE
+    },
+    Case {
+        name: "outside before unbound, and unbound before no body",
+        input: b"---\ncreate([destroy(false)])\nask((call(1),call(X),pengine_rpc(a,b)))\nask((call(1),call(X)))\nask(call(1))\n",
+        written: b"create\nerror(error(permission_error(call,sandboxed,pengine_rpc/2),none))\nerror(error(instantiation_error,none))\nerror(error(type_error(callable,1),none))\n",
+        ..DONE
+    },
+    Case {
+        name: "variables of the error are numbered anew",
+        input: b"---\nask((p(Z),call((X,1))))\n",
+        written: b"create\nerror(error(type_error(callable,(_0,1)),none))\ndestroy\n",
+        ..DONE
+    },
+    Case {
+        name: "no ball of a refused goal is caught",
+        input: b"---\nask(catch(halt,_,true))\n",
+        written: b"create\nerror(error(permission_error(call,sandboxed,halt/0),none))\ndestroy\n",
+        ..DONE
+    },
+    Case {
+        name: "a goal behind a caret",
+        input: b"---\nask(bagof(X,Y^halt,L))\n",
+        written: b"create\nerror(error(permission_error(call,sandboxed,halt/0),none))\ndestroy\n",
+        ..DONE
+    },
+    Case {
+        name: "an argument that is added at a goal",
+        input: b"---\nask(maplist(call,[halt]))\n",
+        written: b"create\nerror(error(instantiation_error,none))\ndestroy\n",
+        ..DONE
+    },
+    Case {
+        name: "a predicate of the library that the client defines",
+        input: b"maplist(_, _) :- halt.\n---\nask(maplist(p,[]))\n",
+        written: b"create\nerror(error(permission_error(call,sandboxed,halt/0),none))\ndestroy\n",
+        ..DONE
+    },
+];
+
 static PROMPTS: [Case; 12] = [
     Case {
         name: "a prompt and its reply",
@@ -404,7 +486,7 @@ static SOLUTIONS: [Case; 15] = [
     },
 ];
 
-static REFUSALS: [Case; 19] = [
+static REFUSALS: [Case; 21] = [
     Case {
         name: "other word",
         word: "sessions",
@@ -507,6 +589,18 @@ static REFUSALS: [Case; 19] = [
         name: "an option with a wrong value",
         input: b"---\ncreate([destroy(yes)])\n",
         said: b"pengines: line 1 refused at byte 0\n",
+        ..REFUSED
+    },
+    Case {
+        name: "an option that is mistyped",
+        input: b"---\n% two at once\ncreate([chunks(2)])\n",
+        said: b"pengines: line 2 refused at byte 0\n",
+        ..REFUSED
+    },
+    Case {
+        name: "a list of options that is mistyped",
+        input: b"---\ncreate([chunk 2])\n",
+        said: b"pengines: line 1 refused at byte 14\n",
         ..REFUSED
     },
     Case {
@@ -662,6 +756,11 @@ fn control_and_arithmetic(rt: HostRuntime) -> Result<(), Fail> {
 }
 
 #[test]
+fn unsafe_goals_are_refused(rt: HostRuntime) -> Result<(), Fail> {
+    run_cases(&rt, rt.alloc(), &UNSAFE)
+}
+
+#[test]
 fn prompts_and_outputs(rt: HostRuntime) -> Result<(), Fail> {
     run_cases(&rt, rt.alloc(), &PROMPTS)
 }
@@ -729,6 +828,28 @@ fn a_term_too_deep_for_an_event_is_an_error(rt: HostRuntime) -> Result<(), Fail>
         script.extend_from_slice(b")")?;
     }
     script.extend_from_slice(b"). w(g(X)) :- big(X).\n---\nask(w(Y))\n")?;
+    let mut src = MemSource::new(alloc, &script, 100, &[])?;
+    let mut out = MemSink::new(alloc, &[])?;
+    let mut err = MemSink::new(alloc, &[])?;
+    assert_eq!(rt; run_plain(alloc, &words, &mut src, &mut out, &mut err), 0);
+    let lines = b"create\nerror(resource_error(text))\ndestroy\n";
+    assert_eq!(rt; out.taken(), lines.as_slice());
+    Ok(())
+}
+
+#[test]
+fn a_refused_goal_too_deep_for_an_event_is_an_error(rt: HostRuntime) -> Result<(), Fail> {
+    let alloc = rt.alloc();
+    let words = vec![in alloc; String::from_str(alloc, "session")?]?;
+    let mut script = b"---\nask((".to_vec(alloc)?;
+    for turn in 0..998 {
+        script.extend_from_slice(b"f(")?;
+    }
+    script.extend_from_slice(b"a")?;
+    for turn in 0..998 {
+        script.extend_from_slice(b")")?;
+    }
+    script.extend_from_slice(b",1))\n")?;
     let mut src = MemSource::new(alloc, &script, 100, &[])?;
     let mut out = MemSink::new(alloc, &[])?;
     let mut err = MemSink::new(alloc, &[])?;

@@ -6,5 +6,6 @@ pub mod Printed
 pub mod Programs
 pub mod RequestLines
 pub mod Scripts
+pub mod Sharing
 pub mod TermShapes
 mod Rereading

@@ -1,10 +1,10 @@
 -- What is written of what is sent is read as that again.
-use Rattle.std.proofs.Common.{◌≡◌, ◌≢◌, ◌==◌, ℕ, zero, suc, ◌≤◌, Bool, true, false, List, [], ◌∷◌, ◌++◌, length, pos, Option, Some, None, Result, Ok, Err, refl, ap, sym, ◌∙◌, arith, codes, if◌then◌else◌, nat_le, ◌&&◌}
+use Rattle.std.proofs.Common.{◌≡◌, ◌≢◌, ℕ, zero, suc, ◌≤◌, Bool, true, false, [], ◌∷◌, ◌++◌, length, Option, Some, None, Ok, refl, ap, sym, arith, codes, if◌then◌else◌}
 use Rattle.std.specs.Ordering.{is_eq}
 use Rattle.std.specs.declared.cmp.Ordering.{Ordering}
 use Rattle.std.specs.declared.cmp.Ordering.TheVariants.{Less, Equal, Greater}
 use Rattle.std.proofs.lemmas.Bool.{le-leb, false≢true}
-use Rattle.term_core.specs.Tree.{Tree, integer, atom, depth}
+use Rattle.term_core.specs.Tree.{Tree}
 use Rattle.term_core.specs.Order.{tree_cmp}
 use Rattle.term_core.specs.OrderLaws.{same_from_tree_cmp}
 use Rattle.term_core.specs.Variables.{map_variables, place_of, variables, numbered}
@@ -13,19 +13,15 @@ use Rattle.prolog_read.specs.Clauses.{iso}
 use Rattle.prolog_read.specs.Outcome.{term_read}
 use Rattle.prolog_read.proofs.Exact.{reads_found}
 use Rattle.read_back.specs.Laws.{WhatIsWrittenIsReadAgain}
-use Rattle.read_back.specs.Sound.{IsSound}
 use Rattle.builtin_table.specs.Lists as lists
 use Rattle.builtin_table.specs.Errors.{one_argument}
-use Rattle.event_core.specs.declared.request.Ask.{Ask}
-use Rattle.event_core.specs.declared.request.Request.{Request}
 use Rattle.event_core.specs.declared.request.Request.TheVariants as request
 use Rattle.request_text.specs.declared.options.TheConstants.{MAX_CHUNK}
 use Rattle.request_text.specs.declared.sent.Sent.{Sent}
 use Rattle.request_text.specs.declared.sent.Sent.TheVariants.{Request as Asks, Abort, Destroy}
 use Rattle.request_text.specs.Shapes.{number_up_to}
 use Rattle.request_text.specs.Requests.{request_of}
-use Rattle.request_text.specs.Spelled.{sent_of, sent_in}
-use Rattle.request_text.specs.Written.{number_term, next_term, template_option, chunk_option, goal_with, ask_term, sent_term, sent_text, ask_mapped, request_mapped, sent_mapped, sent_again, HasChunk, IsChunk, RequestsAreReadAgain}
+use Rattle.request_text.specs.Written.{number_term, next_term, chunk_option, goal_with, sent_term, sent_text, sent_mapped, HasChunk, IsChunk, RequestsAreReadAgain}
 
 number_found : (n : ℕ) → 1 ≤ n → n ≤ MAX_CHUNK → number_up_to MAX_CHUNK (number_term n) ≡ Some n
 number_found n low high = rw (le-leb 1 n low, le-leb n MAX_CHUNK high) refl

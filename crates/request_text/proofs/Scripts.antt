@@ -20,6 +20,14 @@ not_text bs h = by (is_utf8 bs) refl
     by true e = absurd (h (IsUtf8-from_is_utf8 bs e))
     by false e = rw e refl
 
+-- what isn't want of memory is passed on as it is
+passed_on : (e : SpecFault) → (spec_fault e ≡ fault.Memory → ⊥) → (e ≡ spec.Memory → ⊥) × (fault.Spec e ≡ spec_fault e)
+passed_on (spec.Source f) n = (λ q. cc, refl)
+passed_on (spec.Clause f) n = (λ q. cc, refl)
+passed_on (spec.Ask f) n = (λ q. cc, refl)
+passed_on (spec.Template f) n = (λ q. cc, refl)
+passed_on spec.Memory n = absurd (n refl)
+
 -- a text and its parts
 module _ (bs text source requests : List ℕ) (same : text ≡ bs) (u : IsUtf8 bs) (a : source ≡ (parts text).source) (b : requests ≡ (parts text).requests) where
   abbrev taken : Parts
@@ -43,15 +51,7 @@ module _ (bs text source requests : List ℕ) (same : text ≡ bs) (u : IsUtf8 b
 
   -- the source text is refused
   pub source_refused : (e : SpecFault) → ((e ≡ spec.Memory → ⊥) → program_in source ≡ Err e) → (spec_fault e ≡ fault.Memory → ⊥) → script bs ≡ Err (spec_fault e)
-  source_refused (spec.Source f) h n = by_parts ∙ ap then_program (h not_memory)
-    where
-      not_memory : spec.Source f ≡ spec.Memory → ⊥
-      not_memory q = cc
-  source_refused (spec.Clause f) h n = by_parts ∙ ap then_program (h not_memory)
-    where
-      not_memory : spec.Clause f ≡ spec.Memory → ⊥
-      not_memory q = cc
-  source_refused spec.Memory h n = absurd (n refl)
+  source_refused e h n = by_parts ∙ ap then_program (h (passed_on e n).0) ∙ ap Err (passed_on e n).1
 
   module _ (cs : List Clause) (read : program_in source ≡ Ok cs) where
     by_lines : script bs ≡ then_session cs (session_in 1 (lines requests))

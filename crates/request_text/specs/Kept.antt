@@ -1,4 +1,4 @@
--- A script, as the code keeps it, and how faults are passed on.
+-- A script and a spec, as the code keeps them, and how faults are passed on.
 use Rattle.program.specs.declared.fault.ProgFault.{ProgFault}
 use Rattle.program.specs.declared.fault.ProgFault.TheVariants as program
 use Rattle.request_text.specs.declared.fault.SpecFault.{SpecFault}
@@ -6,10 +6,15 @@ use Rattle.request_text.specs.declared.fault.SpecFault.TheVariants as spec
 use Rattle.request_text.specs.declared.fault.ScriptFault.{ScriptFault}
 use Rattle.request_text.specs.declared.fault.ScriptFault.TheVariants as fault
 use Rattle.request_text.specs.declared.script.Script as kept
+use Rattle.event_core.specs.declared.spec.Spec as event
+use Rattle.request_text.specs.Creation.{Creation}
 use Rattle.request_text.specs.Spelled.{Script}
 
 abbrev pub script_read : kept.Script → Script
 script_read s = record { program = s.program; settings = s.settings; lines = s.lines }
+
+abbrev pub creation_read : event.Spec → Creation
+creation_read s = record { program = s.program.value; ask = s.ask; chunk = s.chunk; limit = s.limit; destroy = s.destroy; bytes = s.bytes }
 
 -- want of memory stays what it is
 abbrev pub clause_fault : ProgFault → SpecFault

@@ -1,3 +1,4 @@
+pub mod Creation
 pub mod Kept
 pub mod Laws
 pub mod Lines
@@ -5,4 +6,5 @@ pub mod Options
 pub mod Requests
 pub mod Shapes
 pub mod Spelled
+pub mod Templates
 pub mod Written

@@ -1,5 +1,5 @@
 -- The text of what is sent, and what it is read as again.
-use Rattle.std.specs.Prelude.{◌≡◌, ℕ, zero, suc, ◌≤◌, Bool, true, false, ⊤, List, [], ◌∷◌, ◌++◌, length, map, pos, Option, Some, None, Ok, if◌then◌else◌, codes}
+use Rattle.std.specs.Prelude.{◌≡◌, ℕ, zero, suc, ◌≤◌, ⊤, List, [], ◌∷◌, ◌++◌, length, pos, Option, Some, None, Ok, if◌then◌else◌, codes}
 use Rattle.std.specs.Ordering.{is_eq}
 use Rattle.term_core.specs.Tree.{Tree, integer, atom, depth}
 use Rattle.term_core.specs.Order.{tree_cmp}

@@ -33,13 +33,17 @@ pub enum RequestFault {
     Memory,
 }
 
-/// Why a source text makes no program.
+/// Why the texts of a new pengine spell nothing that it can be made with.
 #[derive(Debug, Drop)]
 pub enum SpecFault {
-    /// It can't be read.
+    /// The source text can't be read.
     Source(ReadFault),
-    /// It can be read, and one of its clauses is refused.
+    /// The source text can be read, and one of its clauses is refused.
     Clause(ProgFault),
+    /// The text of the first query isn't one term. It doesn't come of a script.
+    Ask(ReadFault),
+    /// The text of its template isn't one term. It doesn't come of a script.
+    Template(ReadFault),
     /// Want of memory.
     Memory,
 }
@@ -87,6 +91,17 @@ impl From<Memory> for SpecFault {
     }
 }
 
+impl<T: Drop> From<AllocFailed<T>> for SpecFault {
+    ghost use Rattle.request_text.specs.declared.fault.SpecFault.TheVariants.{Memory as Starved};
+    ghost use Rattle.std.specs.Prelude.{◌≡◌};
+
+    ghost from_gives = { λ _ result. result ≡ Starved };
+
+    fn from(_refused: AllocFailed<T>) -> SpecFault {
+        SpecFault::Memory
+    }
+}
+
 impl From<ProgFault> for SpecFault {
     ghost use Rattle.request_text.specs.Kept.{clause_fault};
     ghost use Rattle.std.specs.Prelude.{◌≡◌};
@@ -112,7 +127,10 @@ impl From<SpecFault> for ScriptFault {
     fn from(fault: SpecFault) -> ScriptFault {
         match fault {
             SpecFault::Memory => ScriptFault::Memory,
-            SpecFault::Source(_) | SpecFault::Clause(_) => ScriptFault::Spec(fault),
+            SpecFault::Source(_)
+            | SpecFault::Clause(_)
+            | SpecFault::Ask(_)
+            | SpecFault::Template(_) => ScriptFault::Spec(fault),
         }
     }
 }

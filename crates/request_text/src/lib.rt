@@ -1,4 +1,4 @@
-//! What clients write: the text of a request, and scripts of a source text and request lines.
+//! What clients write: the texts of which a pengine is made, the text of a request, and scripts of a source text and request lines.
 #![tactic(auto)]
 
 mod fault;
@@ -9,6 +9,8 @@ mod requests;
 mod script;
 mod sent;
 mod shapes;
+mod spec;
+mod template;
 mod written;
 
 pub use fault::{RequestFault, ScriptFault, SpecFault, place_of};
@@ -16,6 +18,7 @@ pub use laws::{lines_keep_their_places, requests_are_read_again, scripts_are_par
 pub use requests::read_request;
 pub use script::{Script, read_script};
 pub use sent::Sent;
+pub use spec::{Options, program_in, read_spec};
 pub use written::request_bytes;
 
 #[cfg(test)]

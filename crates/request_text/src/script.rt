@@ -3,22 +3,21 @@ ghost use Rattle.std.specs.Prelude.{◌≡◌, ◌≢◌, ◌≤◌, ◌+◌, Ok
 ghost use Rattle.std.specs.Str.Lines.{lines};
 ghost use Rattle.prolog_read.specs.Clauses.{iso};
 ghost use Rattle.prolog_read.specs.Outcome.{term_read};
-ghost use Rattle.request_text.specs.declared.fault.SpecFault.TheVariants as spec_fault;
 ghost use Rattle.request_text.specs.declared.fault.ScriptFault.TheVariants as script_fault;
-ghost use Rattle.request_text.specs.Spelled.{is_passed, line_term, request_at, requests_in, session_of, session_in, settings_at, program_in, script};
+ghost use Rattle.request_text.specs.Spelled.{is_passed, line_term, request_at, requests_in, session_of, session_in, settings_at, script};
 ghost use Rattle.request_text.specs.Kept.{script_read};
 
-use crate::fault::{ScriptFault, SpecFault, place_of};
+use crate::fault::{ScriptFault, place_of};
 use crate::options::created;
 use crate::parts::parts;
 use crate::requests::request_of;
 use crate::sent::Sent;
-use builtin_table::Table;
+use crate::spec::program_in;
 use event_core::Settings;
 use lib_text::Library;
 use op_table::Ops;
 use program::Program;
-use prolog_read::{ReadFault, read_clauses, read_term};
+use prolog_read::{ReadFault, read_term};
 use std::alloc::{AllocError, Global};
 use term_core::{List, Memory, Term};
 
@@ -148,21 +147,6 @@ fn session_in(alloc: Global, text: &str) -> Result<(Settings, List<Sent>), Scrip
     let (settings, first) = opening(alloc, &ops, &lines)?;
     let requests = requests_from(alloc, &ops, &lines, first)?;
     Ok((settings, requests))
-}
-
-/// The program that a source text spells over the library.
-fn program_in(alloc: Global, library: &Library, text: &str) -> Result<Program, SpecFault>
-    ensures program { IfOk result (λ p. program_in text.now ≡ Ok p) }
-    ensures refused { IfErr result (λ e. e ≢ spec_fault.Memory → program_in text.now ≡ Err e) }
-{
-    let clauses = match read_clauses(alloc, text) {
-        Ok(clauses) => clauses,
-        Err(ReadFault::Memory) => return Err(SpecFault::Memory),
-        Err(fault) => return Err(SpecFault::Source(fault)),
-    };
-    let table = Table::standard(alloc)?;
-    let program = Program::from_terms(alloc, clauses, library.terms(), table.reserved())?;
-    Ok(program)
 }
 
 /// Reads a script: a source text, the line `---`, and request lines; without that line there are no requests. Lines end in

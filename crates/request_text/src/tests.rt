@@ -1,12 +1,13 @@
 use crate::{
-    RequestFault, ScriptFault, Sent, SpecFault, place_of, read_request, read_script, request_bytes,
+    Options, RequestFault, ScriptFault, Sent, SpecFault, place_of, read_request, read_script,
+    read_spec, request_bytes,
 };
 use event_core::Request;
 use lib_text::Library;
 use program::ProgFault;
 use std::alloc::Global;
 use std::test::Fail;
-use term_core::{Name, Pi};
+use term_core::{Memory, Name, Pi, Text};
 
 // What kind of request it is, and its chunk.
 fn kind(sent: &Sent) -> (&'static str, u64) {
@@ -152,5 +153,88 @@ fn scripts(rt: HostRuntime) -> Result<(), Fail> {
         assert_eq!(rt; found.1, expected.1);
         assert_eq!(rt; found.2, expected.2);
     }
+    Ok(())
+}
+
+// A text, or none where it would be empty.
+fn optional(alloc: Global, text: &str) -> Result<Option<Text>, Memory> {
+    if text.is_empty() {
+        return Ok(None);
+    }
+    Ok(Some(Text::from_str(alloc, text)?))
+}
+
+// The options with a query, a template and a source text.
+fn options(alloc: Global, ask: &str, template: &str, source: &str) -> Result<Options, Memory> {
+    Ok(Options {
+        ask: optional(alloc, ask)?,
+        template: optional(alloc, template)?,
+        src_text: Text::from_str(alloc, source)?,
+        chunk: 2,
+        limit: 9,
+        destroy: false,
+    })
+}
+
+// What options spell, with the bytes of the query or the place of the fault.
+fn spelled(alloc: Global, library: &Library, options: &Options) -> (&'static str, u64) {
+    match read_spec(alloc, library, options) {
+        Ok(spec) => match &spec.ask {
+            Some(ask) => ("query", ask.bytes),
+            None => ("no query", 0),
+        },
+        Err(SpecFault::Source(fault)) => ("source", place_of(fault)),
+        Err(SpecFault::Clause(_)) => ("clause", 0),
+        Err(SpecFault::Ask(fault)) => ("ask", place_of(fault)),
+        Err(SpecFault::Template(fault)) => ("template", place_of(fault)),
+        Err(SpecFault::Memory) => ("memory", 0),
+    }
+}
+
+static SPECS: [(&str, &str, &str, (&str, u64)); 8] = [
+    ("p(X)", "X-Y .", "p(a).", ("query", 9)),
+    ("p(X)", "", "p(a).", ("query", 4)),
+    ("", "X", "p(a).", ("no query", 0)),
+    ("", "f(", "p(a).", ("no query", 0)),
+    ("p(X", "f(", "p(a", ("source", 3)),
+    ("p(X", "f(", ":- dynamic(p/1).", ("clause", 0)),
+    ("p(X", "f(", "", ("ask", 3)),
+    ("p(X)", "f(", "", ("template", 2)),
+];
+
+#[test]
+fn specs(rt: HostRuntime) -> Result<(), Fail> {
+    let alloc = rt.alloc();
+    let library = Library::read(alloc)?;
+    for (ask, template, source, expected) in &SPECS {
+        let options = options(alloc, ask, template, source)?;
+        let found = spelled(alloc, &library, &options);
+        assert_eq!(rt; found.0, expected.0, "{ask} {template} {source}");
+        assert_eq!(rt; found.1, expected.1, "{ask} {template} {source}");
+    }
+    Ok(())
+}
+
+#[test]
+fn names_are_shared(rt: HostRuntime) -> Result<(), Fail> {
+    let alloc = rt.alloc();
+    let library = Library::read(alloc)?;
+    let options = options(alloc, "p(X,_,Y)", "f(Y,Z,_,X)", "p(a,b,c).")?;
+    let spec = read_spec(alloc, &library, &options)?;
+    let pi = Pi {
+        name: Name::new(alloc, "p")?,
+        arity: 3,
+    };
+    assert_eq!(rt; spec.program.clauses(&pi).len(), 1);
+    assert_eq!(rt; spec.chunk, 2);
+    assert_eq!(rt; spec.limit, 9);
+    assert!(rt; !spec.destroy);
+    assert_eq!(rt; spec.bytes, 9);
+    let Some(ask) = spec.ask else {
+        panic!(rt; "no query")
+    };
+    let written = request_bytes(alloc, &Sent::Request(Request::Ask(ask)))?;
+    let expected = b"ask(p(_0,_1,_2),[template(f(_2,_4,_5,_0))])";
+    assert_eq!(rt; written.as_slice(), expected.as_slice());
     Ok(())
 }

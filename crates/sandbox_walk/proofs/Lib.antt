@@ -1,8 +1,11 @@
 pub mod Collecting
 pub mod Guarded
+pub mod Handing
 pub mod Instances
 pub mod Joining
+pub mod Keeping
 pub mod Linking
+pub mod Loading
 pub mod Passing
 pub mod Reading
 pub mod Rounds

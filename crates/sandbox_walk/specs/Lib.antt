@@ -1,4 +1,6 @@
 pub mod Computed
+pub mod Formal
+pub mod Keeping
 pub mod Passes
 pub mod Pending
 pub mod Seen

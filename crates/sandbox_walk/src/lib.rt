@@ -16,7 +16,10 @@ mod texts;
 mod unsafe_goal;
 mod verdict;
 
-pub use laws::{passed_goals_stay_inside, the_verdict_is_one};
+pub use laws::{
+    loaded_programs_keep_the_sandbox, passed_goals_stay_inside, safe_goals_stay_inside,
+    the_verdict_is_one,
+};
 pub use unsafe_goal::Unsafe;
 pub use verdict::{Passed, check};
 

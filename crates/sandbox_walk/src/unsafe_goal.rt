@@ -1,3 +1,8 @@
+ghost use Rattle.std.specs.Prelude.{◌≡◌, IfOk};
+ghost use Rattle.sandbox_walk.specs.Formal.{sandboxed_error};
+
+use builtin_table::{indicator, instantiation_error, type_error};
+use std::alloc::Global;
 use term_core::{Memory, Pi, Term};
 
 /// Why a goal may not be asked.
@@ -22,4 +27,34 @@ impl From<Memory> for Unsafe {
     fn from(_refused: Memory) -> Unsafe {
         Unsafe::Memory
     }
+}
+
+impl Unsafe {
+    ghost use Rattle.sandbox_walk.specs.Formal.{formal_of};
+    ghost use Rattle.std.specs.Prelude.{◌≡◌, IfOk};
+
+    /// What is wrong, as an error term says it: `permission_error(call,sandboxed,Name/Arity)`, `instantiation_error` or
+    /// `type_error(callable,T)` (ISO 13211-1, 7.12.2). `Err` is want of memory, also where that is what `self` tells.
+    pub fn formal(&self, alloc: Global) -> Result<Term, Memory>
+        ensures { IfOk result (λ t. t ≡ formal_of self.now) }
+    {
+        match self {
+            Unsafe::Sandboxed(pi) => sandboxed_error(alloc, pi),
+            Unsafe::Uninstantiated => instantiation_error(alloc),
+            Unsafe::NotCallable(term) => type_error(alloc, "callable", term.copied(alloc)?),
+            Unsafe::Memory => Err(Memory),
+        }
+    }
+}
+
+/// What is wrong where the sandbox doesn't permit a call of this predicate.
+fn sandboxed_error(alloc: Global, pi: &Pi) -> Result<Term, Memory>
+    ensures { IfOk result (λ t. t ≡ sandboxed_error pi.now) }
+{
+    let args = vec![in alloc;
+        Term::atom(alloc, "call")?,
+        Term::atom(alloc, "sandboxed")?,
+        indicator(alloc, pi)?,
+    ]?;
+    Term::comp(alloc, "permission_error", &args)
 }

@@ -12,4 +12,4 @@ returns c =
     sym (append-nil c.loop-request.events)
     ∙ ap (λ l. c.loop-request.events ++ brings (spec_of c.loop-request.pengine.clauses c.loop-request.pengine.settings) l c.loop-request.pengine.place) (sym none)
     ∙ c.loop-request.invariant.events
-    ∙ sym (full_is_brought (spec_of c.args.program c.args.settings) c.args.requests.items)
+    ∙ sym (full_is_brought (spec_of c.args.program.value c.args.settings) c.args.requests.items)

@@ -10,5 +10,5 @@ invariant-loop-request l = record {
   clauses : l.pengine.clauses ≡ l.initial.pengine.clauses;
   settings : l.pengine.settings ≡ l.initial.pengine.settings;
   events : l.events ++ brings (spec_of l.pengine.clauses l.pengine.settings) (into_iter_items l.request-iterator) l.pengine.place
-      ≡ Create ∷ brings (spec_of l.fn.program l.fn.settings) l.fn.requests.items Free;
+      ≡ Create ∷ brings (spec_of l.fn.program.value l.fn.settings) l.fn.requests.items Free;
 }

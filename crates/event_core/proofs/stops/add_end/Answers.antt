@@ -9,10 +9,10 @@ pub returns-in_ok-add : goal.returns-in_ok-add
 returns-in_ok-add c =
     c.in_ok-add.ensures.stops
     ∙ ended (fits quoted) c.in_ok-add.field-0 c.args.stops.now.items c.args.step c.in-Some.told c.in_ok-add.ensures.fits
-    ∙ ap (λ s. c.args.stops.now.items ++ cut_at (fits quoted) (at_end c.args.step s)) (sym c.in-Some.is ∙ c.in_ok-told.ensures)
+    ∙ ap (λ s. c.args.stops.now.items ++ cut_at (fits quoted) (at_end c.args.step s)) (sym c.in-Some.is)
 
 pub returns-in_default : goal.returns-in_default
 unfolding cut_at
 returns-in_default c =
     sym (append-nil c.args.stops.now.items)
-    ∙ ap (λ s. c.args.stops.now.items ++ cut_at (fits quoted) (at_end c.args.step s)) (sym c.in_default.is ∙ c.in_ok-told.ensures)
+    ∙ ap (λ s. c.args.stops.now.items ++ cut_at (fits quoted) (at_end c.args.step s)) (sym c.in_default.is)
