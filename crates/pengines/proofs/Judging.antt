@@ -50,6 +50,8 @@ module _ (bs text : List ℕ) (same : text ≡ bs) (u : IsUtf8 bs) where
   pub source_refused : (e : SpecFault) → ((e ≡ spec.Memory → ⊥) → program_in text ≡ Err e) → (spec_fault e ≡ fault.Memory → ⊥) → source_in bs ≡ Err (spec_fault e)
   source_refused (spec.Source f) h n = is_source ∙ ap of_spec (h (λ q. cc))
   source_refused (spec.Clause f) h n = is_source ∙ ap of_spec (h (λ q. cc))
+  source_refused (spec.Ask f) h n = is_source ∙ ap of_spec (h (λ q. cc))
+  source_refused (spec.Template f) h n = is_source ∙ ap of_spec (h (λ q. cc))
   source_refused spec.Memory h n = absurd (n refl)
 
 -- ---- the verdict

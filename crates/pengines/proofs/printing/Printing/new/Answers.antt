@@ -15,7 +15,7 @@ returns c =
     let made : Standing = record { clauses = script.program; settings = script.settings; place = Free } in
     let waiting : c.push_back.new.self.items ≡ Create ∷ [] = search rules in
     let all : sent ≡ script.lines = search rules in
-    let standing : c.new.result ≡ made = search rules in
+    let standing : c.new-2.result ≡ made = search rules in
     ap (λ (p : Standing). lines_left (spec_of p.clauses p.settings) c.push_back.new.self.items sent p.place) standing
     ∙ ap (λ es. lines_left (spec_of made.clauses made.settings) es sent Free) waiting
     ∙ ap (λ ss. lines_left (spec_of made.clauses made.settings) (Create ∷ []) ss Free) all
