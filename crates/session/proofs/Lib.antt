@@ -4,3 +4,4 @@ pub mod Resolution
 pub mod Room
 mod Rows
 pub mod Schedule
+pub mod Seen
