@@ -1,3 +1,4 @@
+pub mod Keeping
 pub mod Lively
 pub mod Numbers
 pub mod Resolution

@@ -371,7 +371,7 @@ gave spec q g p = record p { steps = p.steps + g.steps; events = p.events + leng
 pub gave_kept : (spec : Spec) (q : Query) (g : kept_turn.Gone) (a : Automaton) (p : Pengine) → Tells spec q a.events g → IsKept (view_of a) p → IsKept (view_of (advanced g a)) (gave spec q g p)
 gave_kept spec q g a p t h =
     let m : map (λ x. x.1) g.events ≡ span spec q p.events (p.events + length g.events) =
-        ap (λ es. map (λ x. x.1) es) t.made ∙ ap (λ k. span spec q k (k + length g.events)) h.events in
+    ap (λ es. map (λ x. x.1) es) t.made ∙ ap (λ k. span spec q k (k + length g.events)) h.events in
     record {
       mailbox = h.mailbox;
       number = h.number;
@@ -661,7 +661,7 @@ module _ (a : Automaton) (q : kept.Query) (g : kept_turn.Gone) (f : g.starved �
 
 -- Whole entries: what one does first, and then what is consumed
 
-same_spec : (cs ds : List Clause) (s t : Settings) → cs ≡ ds → s ≡ t → spec_of cs s ≡ spec_of ds t
+pub same_spec : (cs ds : List Clause) (s t : Settings) → cs ≡ ds → s ≡ t → spec_of cs s ≡ spec_of ds t
 same_spec cs ds s t e f = ap (λ z. spec_of z s) e ∙ ap (λ z. spec_of ds z) f
 
 abbrev pub Settles : View → View → Type 0

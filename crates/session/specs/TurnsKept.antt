@@ -1,5 +1,5 @@
 -- How a turn is kept, and what it makes.
-use Rattle.std.specs.Prelude.{◌≡◌, ℕ, ◌+◌, ◌<◌, ◌≤◌, ◌^◌, true, false, if◌then◌else◌, List, [], ◌∷◌, length, take, drop, nat_le, Option, Some, None, All}
+use Rattle.std.specs.Prelude.{◌≡◌, ℕ, ◌+◌, ◌<◌, ◌≤◌, ◌^◌, true, false, if◌then◌else◌, List, [], length, take, drop, nat_le, Option, Some, None, All}
 use Rattle.program.specs.Clauses.{Clause}
 use Rattle.solve_model.specs.Trace.{world_of}
 use Rattle.event_core.specs.declared.settings.Settings.{Settings}
@@ -12,9 +12,12 @@ use Rattle.session.specs.After as state
 use Rattle.session.specs.After.{Pengine, after_entry, Given}
 use Rattle.session.specs.Views.{View, IsSeen, spec_seen, Gone, TurnView}
 
+abbrev pub gone_view : kept.Gone → Gone
+gone_view g = record { steps = g.steps; events = g.events; starved = g.starved; rest = g.rest }
+
 abbrev pub gone_of : Option kept.Gone → Option Gone
 gone_of None = None
-gone_of (Some g) = Some (record { steps = g.steps; events = g.events; starved = g.starved; rest = g.rest })
+gone_of (Some g) = Some (gone_view g)
 
 abbrev pub turn_view : Inside → TurnView
 turn_view t = record {
@@ -28,17 +31,11 @@ turn_view t = record {
   gone = gone_of t.gone;
 }
 
--- the steps never fall from the first to the last
-abbrev pub Rises : {A : Type 0} → List (ℕ × A) → Type 0
-Rises [] = Unit {0}
-Rises (x ∷ xs) = All (λ y. x.0 ≤ y.0) xs × Rises xs
-
 -- A query that has made n steps and e events and has an event to come: those events came within the n steps, and no further one comes before. It reaches nothing outside.
 pub record IsAhead (cs : List Clause) (s : Settings) (q : Query) (n e : ℕ) : Type 0 where
   pub more : e < length (events_of (spec_of cs s) q)
   pub before : All (λ x. x.0 ≤ n) (take e (events_of (spec_of cs s) q))
   pub later : All (λ x. n ≤ x.0) (drop e (events_of (spec_of cs s) q))
-  pub rises : Rises (events_of (spec_of cs s) q)
   pub inside : StaysInside (replying (world_of cs [] s.limit) q.requests) q.asked.goal q.asked.template
 
 abbrev pub Starts : TurnView → Type 0

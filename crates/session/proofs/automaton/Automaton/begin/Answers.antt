@@ -11,7 +11,7 @@ pub returns-in-Some-clause-does : goal.returns-in-Some-clause-does
 returns-in-Some-clause-does c =
     let a : Automaton = c.args.self.now in
     let e : c.end.new.self ≡ closed a.settings.destroys (says (event.Error c.in-Some.term) (counted a)) =
-        c.end.ensures ∙ ap (λ (z : Automaton). closed z.settings.destroys z) c.emit.ensures in
+    c.end.ensures ∙ ap (λ (z : Automaton). closed z.settings.destroys z) c.emit.ensures in
     subst (λ (z : Automaton). Does (begins (spec_seen (view_of a)) c.args.query.ask c.args.refusal) (view_of a) (view_of z)) (sym e)
     (subst (λ r. Does (begins (spec_seen (view_of a)) c.args.query.ask r) (view_of a) (view_of (closed a.settings.destroys (says (event.Error c.in-Some.term) (counted a))))) (sym c.in-Some.is)
     (refused_does a c.args.query.ask c.in-Some.term c.requires.idle))

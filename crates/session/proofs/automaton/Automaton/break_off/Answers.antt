@@ -13,5 +13,5 @@ returns-clause-does c =
     let a : Automaton = c.args.self.now in
     let b : is_busy a.state ≡ true = sym c.is_busy.ensures ∙ c.if-not-is_busy.false in
     let e : c.end.new.self ≡ closed a.settings.destroys (says event.Abort (record (cleared a) { state = at.Idle })) =
-        c.end.ensures ∙ ap (λ (z : Automaton). closed z.settings.destroys z) c.emit.ensures ∙ ap (λ m. closed a.settings.destroys (says event.Abort (record a { mailbox = m; state = at.Idle }))) c.clear.ensures in
+    c.end.ensures ∙ ap (λ (z : Automaton). closed z.settings.destroys z) c.emit.ensures ∙ ap (λ m. closed a.settings.destroys (says event.Abort (record a { mailbox = m; state = at.Idle }))) c.clear.ensures in
     subst (λ (z : Automaton). Does (λ p. aborted_at (spec_seen (view_of a)) p.state (struck p)) (view_of a) (view_of z)) (sym e) (busy_breaks a b)

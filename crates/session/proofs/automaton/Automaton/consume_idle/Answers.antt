@@ -14,7 +14,7 @@ returns-in_default c =
     let a : Automaton = c.args.self.now in
     let r : Request = c.args.letter.node in
     let e : c.emit.new.self ≡ says (event.Protocol (kind_of r)) a =
-        c.emit.ensures ∙ ap (λ k. says (event.Protocol k) a) (c.kind.ensures ∙ ap kind_of c.into_request.ensures) in
+    c.emit.ensures ∙ ap (λ k. says (event.Protocol k) a) (c.kind.ensures ∙ ap kind_of c.into_request.ensures) in
     let f : IsFurther r = subst IsFurther c.into_request.ensures (further_of_not c.into_request.result c.in_default.not-Ask) in
     record {
       sound = subst IsSound (sym e) (says_sound (event.Protocol (kind_of r)) a c.requires.sound c.requires.idle c.requires.room);

@@ -35,7 +35,7 @@ returns-else-stops-clause-does c =
     let a : Automaton = c.args.self.now in
     let r : Request = c.args.letter.node in
     let e : c.rest.new.self ≡ record (says (event.Protocol (kind_of r)) a) { state = rests c.args.rest c.args.query } =
-        c.rest.ensures ∙ ap (λ (z : Automaton). record z { state = rests c.args.rest c.args.query }) (c.emit-else-stops.ensures ∙ ap (λ k. says (event.Protocol k) a) c.kind.ensures) in
+    c.rest.ensures ∙ ap (λ (z : Automaton). record z { state = rests c.args.rest c.args.query }) (c.emit-else-stops.ensures ∙ ap (λ k. says (event.Protocol k) a) c.kind.ensures) in
     let m : fit c.args.rest r ≡ Misfit = misfit_of (fit c.args.rest r) (λ g. different c.goes_on.result c.if-goes_on.false (c.goes_on.ensures.1 g)) (λ g. different c.stops.result c.if-stops.false (c.stops.ensures.1 g)) in
     subst (λ (z : Automaton). Does (λ p. fits (spec_seen (view_of a)) p.state r p) (record (view_of a) { look = resting c.args.rest (query_of c.args.query) }) (view_of z)) (sym e)
     (misfit_does a c.args.rest c.args.query r c.requires.rests m)

@@ -103,4 +103,3 @@ returns-in-Some-Over-clause-turns c =
     let e : c.wait.new.self ≡ advanced c.args.gone c.args.self.now = waited c.args.self.now c.args.gone c.len.result c.wait.new.self c.len.ensures c.wait.ensures in
     let k : c.end-in-Some-Over.new.self ≡ closed c.args.self.now.settings.destroys (advanced c.args.gone c.args.self.now) = c.end-in-Some-Over.ensures ∙ ap (λ (z : Automaton). closed z.settings.destroys z) e in
     subst (λ (z : Automaton). Turns c.args.query c.args.gone (view_of c.args.self.now) (view_of z)) (sym k) (over c.args.self.now c.args.query c.args.gone c.if-starved.false (tie c.args.gone.rest c.in-Some-Over.field-0 rest.Over c.in-Some-Over.is (rw c.in-Some-Over.is at c.in-Some-Over.field-0-is)))
-
