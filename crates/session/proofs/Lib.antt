@@ -4,5 +4,6 @@ pub mod Numbers
 pub mod Resolution
 pub mod Room
 mod Rows
+pub mod Sandboxed
 pub mod Schedule
 pub mod Seen

@@ -15,7 +15,7 @@ mod turn;
 mod waiting;
 
 pub use answers::{Given, Pulled, SendFault};
-pub use laws::{lost_turns_are_older, no_more_wait, schedule_doesnt_matter};
+pub use laws::{kept_programs_resolve, lost_turns_are_older, no_more_wait, schedule_doesnt_matter};
 pub use session::Session;
 pub use took::Took;
 pub use turn::Turn;
