@@ -1,13 +1,17 @@
 -- Laws of one pengine, whatever turns fall.
 use Rattle.std.specs.Prelude.{◌≡◌, ℕ, ◌≤◌, ◌<◌, ◌+◌, Bool, List, [], length, None}
 use Rattle.term_core.specs.Tree.{Tree}
+use Rattle.program.specs.Clauses.{Clause}
 use Rattle.solve_model.specs.Run.{World}
+use Rattle.sandbox_walk.specs.Keeping.{KeepsSandbox}
 use Rattle.event_core.specs.declared.event.Event.{Event}
 use Rattle.event_core.specs.declared.request.Ask.{Ask}
 use Rattle.event_core.specs.declared.request.Request.{Request}
+use Rattle.event_core.specs.declared.settings.Settings.{Settings}
 use Rattle.event_core.specs.Parts.{part}
 use Rattle.event_core.specs.Laws.{Begins, StaysInside, replying}
 use Rattle.event_core.specs.Full.{Spec, full}
+use Rattle.event_core.specs.Standing.{spec_of}
 use Rattle.session.specs.After.{State, Running, Pengine, Entry, after, made, most_waiting, most_requests, waiting}
 use Rattle.session.specs.Legal.{IsLegal, IsRunning, Holds, acts}
 
@@ -19,6 +23,10 @@ pub record IsResolution (spec : Spec) : Type 0 where
   pub chunk : Ask → ℕ
   pub is_part : (a : Ask) (rs : List Request) → spec.part a rs ≡ part world fits size a.goal a.template (chunk a) rs
   pub inside : (a : Ask) → spec.refusal a ≡ None → (rs : List Request) → StaysInside (replying world rs) a.goal a.template
+
+-- Over a program that keeps to the sandbox the events of a query are so: no call of one that may be asked reaches outside.
+abbrev pub KeptProgramsResolve : Type 0
+KeptProgramsResolve = (cs : List Clause) (s : Settings) → KeepsSandbox cs → IsResolution (spec_of cs s)
 
 -- nothing runs
 abbrev pub IsStill : State → Type 0

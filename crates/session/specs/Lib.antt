@@ -1,4 +1,9 @@
 pub mod After
+pub mod Answers
+pub mod Begun
+pub mod Kept
 pub mod Laws
 pub mod Legal
 pub mod Turns
+pub mod TurnsKept
+pub mod Views

@@ -1,5 +1,5 @@
 // Laws that hold of every pengine over resolution.
-ghost use Rattle.session.specs.Laws.{ScheduleDoesntMatter, NoMoreWait, LostTurnsAreOlder};
+ghost use Rattle.session.specs.Laws.{KeptProgramsResolve, ScheduleDoesntMatter, NoMoreWait, LostTurnsAreOlder};
 
 /// The schedule doesn't matter: for every list of entries that a pengine can have, its events begin the list that resolution defines for its requests, with each abort, destroy and want of memory striking at one step. Where nothing runs and no request waits they are all of that list.
 pub fn schedule_doesnt_matter()
@@ -14,4 +14,9 @@ pub fn no_more_wait()
 /// A turn that is out and will be dropped is of an earlier query than the one that runs.
 pub fn lost_turns_are_older()
     ensures { LostTurnsAreOlder }
+{}
+
+/// Over a program that keeps to the sandbox the events of a query are those that resolution gives, and no call of a goal that may be asked reaches outside. So the schedule doesn't matter for its pengines.
+pub fn kept_programs_resolve()
+    ensures { KeptProgramsResolve }
 {}

@@ -1,0 +1,62 @@
+-- How a turn is kept, and what it makes.
+use Rattle.std.specs.Prelude.{◌≡◌, ℕ, ◌+◌, ◌<◌, ◌≤◌, ◌^◌, true, false, if◌then◌else◌, List, [], length, take, drop, nat_le, Option, Some, None, All}
+use Rattle.program.specs.Clauses.{Clause}
+use Rattle.solve_model.specs.Trace.{world_of}
+use Rattle.event_core.specs.declared.settings.Settings.{Settings}
+use Rattle.event_core.specs.Full.{Query, part_of, events_of}
+use Rattle.event_core.specs.Laws.{StaysInside, replying}
+use Rattle.event_core.specs.Standing.{spec_of}
+use Rattle.session.specs.declared.turn.Gone as kept
+use Rattle.session.specs.declared.turn.Turn.TheInside.{Inside}
+use Rattle.session.specs.After as state
+use Rattle.session.specs.After.{Pengine, after_entry, Given}
+use Rattle.session.specs.Views.{View, IsSeen, spec_seen, Gone, TurnView}
+
+abbrev pub gone_view : kept.Gone → Gone
+gone_view g = record { steps = g.steps; events = g.events; starved = g.starved; rest = g.rest }
+
+abbrev pub gone_of : Option kept.Gone → Option Gone
+gone_of None = None
+gone_of (Some g) = Some (gone_view g)
+
+abbrev pub turn_view : Inside → TurnView
+turn_view t = record {
+  clauses = t.query.program.value;
+  settings = t.settings;
+  query = record { asked = t.query.ask; requests = t.query.requests };
+  number = t.number;
+  steps = t.steps;
+  events = t.events;
+  room = t.room;
+  gone = gone_of t.gone;
+}
+
+-- A query that has made n steps and e events and has an event to come: those events came within the n steps, and no further one comes before. It reaches nothing outside.
+pub record IsAhead (cs : List Clause) (s : Settings) (q : Query) (n e : ℕ) : Type 0 where
+  pub more : e < length (events_of (spec_of cs s) q)
+  pub before : All (λ x. x.0 ≤ n) (take e (events_of (spec_of cs s) q))
+  pub later : All (λ x. n ≤ x.0) (drop e (events_of (spec_of cs s) q))
+  pub inside : StaysInside (replying (world_of cs [] s.limit) q.requests) q.asked.goal q.asked.template
+
+abbrev pub Starts : TurnView → Type 0
+Starts t = IsAhead t.clauses t.settings t.query t.steps t.events
+
+-- what is known of each turn that has gone
+pub record IsGone (t : TurnView) (g : Gone) : Type 0 where
+  pub steps : t.steps + g.steps < 2 ^ 64
+  pub events : t.events + length g.events < 2 ^ 64
+  pub room : length g.events ≤ t.room
+  -- its events are those of the query after the first ones
+  pub made : Starts t → g.events ≡ drop t.events (take (t.events + length g.events) (events_of (spec_of t.clauses t.settings) t.query))
+  -- and the rest is that of the query where these are all
+  pub rest : Starts t → g.starved ≡ false → g.rest ≡ (if nat_le (length (events_of (spec_of t.clauses t.settings) t.query)) (t.events + length g.events) then Some (part_of (spec_of t.clauses t.settings) t.query).rest else None)
+
+abbrev pub IsGoneAt : TurnView → Option Gone → Type 0
+IsGoneAt t None = Unit {0}
+IsGoneAt t (Some g) = IsGone t g
+
+-- A turn was kept: what looked like v, and whose query the turn had, looks like w after the entry. A turn that starts otherwise than the definition says is never out.
+pub record Keeps (v : View) (t : TurnView) (g : Gone) (w : View) : Type 0 where
+  pub clauses : w.clauses ≡ v.clauses
+  pub settings : w.settings ≡ v.settings
+  pub seen : (p : Pengine) → p.state ≡ state.Running t.query → Starts t → IsSeen v p → IsSeen w (after_entry (spec_seen v) (Given t.number g.steps (length g.events) g.starved true) p)
