@@ -1,27 +1,32 @@
 #!/usr/bin/env python3
-"""Times the sandbox's walk over programs of doubling size and prints one row for each shape of program. Run by hand; no gate
-reads it.
+"""Times the sandbox's walk by `pengines check` over programs of doubling size, and prints one row for each shape of program.
+Run by hand after `rt ci`; no gate reads it.
 
-It builds a small program over `sandbox_walk` in a folder of its own. The last column is the time for twice the clauses over
-the time for the clauses, near 2 where the time is linear. The time of reading alone is taken off.
+Each program is read twice: with a goal that reaches all its clauses, and with one that reaches none, whose time is taken off.
+The last column is the time for twice the clauses over the time for the clauses, near 2 where the time is linear.
 
-Usage: bench/sandbox.py
+Usage: bench/sandbox.py [PROGRAM]   (default: crates/pengines/out/pengines)
 """
+import os
 import subprocess
-import tempfile
-import time
+import sys
 
-from build import built
+HERE = os.path.dirname(os.path.abspath(__file__))
+PROGRAM = sys.argv[1] if len(sys.argv) > 1 else os.path.join(HERE, "..", "crates", "pengines", "out", "pengines")
 
 
-def seconds(program, words, text):
-    """The least time of five runs, and what the program printed."""
+def seconds(goal, text):
+    """The least processor time of nine runs, and the line that was printed."""
     times = []
-    for _ in range(5):
-        began = time.perf_counter()
-        done = subprocess.run([program, *words], input=text.encode(), stdout=subprocess.PIPE, check=True)
-        times.append(time.perf_counter() - began)
-    return min(times), done.stdout.decode().strip()
+    for _ in range(9):
+        child = subprocess.Popen([PROGRAM, "check", goal], stdin=subprocess.PIPE, stdout=subprocess.PIPE)
+        child.stdin.write(text)
+        child.stdin.close()
+        line = child.stdout.read().decode().strip()
+        _, status, usage = os.wait4(child.pid, 0)
+        assert os.waitstatus_to_exitcode(status) == 0, line
+        times.append(usage.ru_utime + usage.ru_stime)
+    return min(times), line
 
 
 def chain(count):
@@ -31,33 +36,28 @@ def chain(count):
 
 def wide(count):
     """One predicate calls each of the others, ten in a clause."""
-    calls = [f"q{i}" for i in range(count)]
-    rows = [calls[i:i + 10] for i in range(0, count, 10)]
-    return "".join(f"p0 :- {', '.join(row)}.\n" for row in rows) + "".join(f"q{i}.\n" for i in range(count))
+    rows = [range(i, min(i + 10, count)) for i in range(0, count, 10)]
+    return "".join(f"p0 :- {', '.join(f'q{i}' for i in row)}.\n" for row in rows) + "".join(f"q{i}.\n" for i in range(count))
 
 
-def facts(count):
-    """One predicate of many clauses."""
-    return "".join(f"p0 :- p0({i}, _), \\+ call(p0, {i}).\n" for i in range(count))
+def many(count):
+    """One predicate of many clauses, with closures."""
+    return "".join(f"p0 :- maplist(r({i}), [a]), \\+ call(r, {i}, b).\n" for i in range(count)) + "r(_, _).\n"
 
 
-SHAPES = {"a chain of predicates": chain, "a predicate that calls all": wide, "many clauses of one": facts}
-
-LIBRARIES = ["term_core", "op_table", "prolog_lex", "prolog_grammar", "prolog_read", "builtin_table", "program", "sandbox_walk"]
+SHAPES = {"a chain of predicates": chain, "a predicate that calls all": wide, "many clauses of one": many}
 
 
 def main():
-    with tempfile.TemporaryDirectory() as folder:
-        program = built(folder, "sandbox", LIBRARIES, "prolog_read builtin_table program sandbox_walk", b"p0.")
-        for name, shape in SHAPES.items():
-            row = []
-            for count in (10_000, 20_000):
-                text = shape(count)
-                read, _ = seconds(program, ["read"], text)
-                both, printed = seconds(program, [], text)
-                row.append((both - read, printed))
-            (once, _), (twice, printed) = row
-            print(f"{name:28} {once * 1000:9.1f} ms {twice * 1000:9.1f} ms  {twice / once:5.2f}  {printed}")
+    for name, shape in SHAPES.items():
+        times = []
+        for count in (10_000, 20_000):
+            text = shape(count).encode()
+            read, _ = seconds("true", text)
+            both, line = seconds("p0", text)
+            times.append((read, both - read))
+        (read, once), (_, twice) = times
+        print(f"{name:28} reading {read * 1000:6.1f} ms  walk {once * 1000:6.1f} ms {twice * 1000:6.1f} ms  {twice / once:5.2f}  {line}")
 
 
 if __name__ == "__main__":

@@ -492,7 +492,7 @@ static REFUSALS: [Case; 21] = [
         word: "sessions",
         status: 2,
         written: b"",
-        said: b"usage: pengines session\n",
+        said: b"usage: pengines session\n       pengines check GOAL\n",
         ..DONE
     },
     Case {
