@@ -1,0 +1,4 @@
+pub mod Bodies
+pub mod Loaded
+pub mod Opening
+pub mod Tables
