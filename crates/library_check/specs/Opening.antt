@@ -1,41 +1,40 @@
 -- Whether a body stands at each goal position of a text, as the code finds out.
-use Rattle.std.specs.Prelude.{ℕ, Bool, true, false, ◌&&◌, List, [], ◌∷◌, length, Vec, Option, Some, None}
+use Rattle.std.specs.Prelude.{ℕ, Bool, true, false, ◌&&◌, ◌==◌, List, [], ◌∷◌, length, if◌then◌else◌, ℤ, Vec, Option, Some, None}
 use Rattle.std.specs.Global.{Global}
 use Rattle.std.specs.List.{list_all}
 use Rattle.term_core.specs.Tree.{Tree}
-use Rattle.sandbox_walk.specs.declared.found.Kind.{Kind as Reading}
-use Rattle.sandbox_walk.specs.declared.found.Kind.TheVariants as reading
-use Rattle.sandbox_walk.specs.Shown.{Kinds, shown, indicator}
+use Rattle.builtin_table.specs.Table.{Rows, row_of}
+use Rattle.program.specs.Bodies.{is_connective}
+use Rattle.sandbox_walk.specs.Shown.{declared_kind, kinds_in, shown, indicator}
+use Rattle.sandbox_walk.specs.Verdict.{in_clause}
 use Rattle.sandbox_walk.specs.Passes.{opens}
-use Rattle.library_check.specs.declared.kinds.Kind.{Kind}
-use Rattle.library_check.specs.declared.kinds.Kind.TheVariants.{Plain, Part, Adds, Behind}
 use Rattle.library_check.specs.declared.opening.Task.{Task}
+use Rattle.library_check.specs.declared.opening.Task.TheVariants.{Part, Argument}
 
--- how the sandbox reads an argument of this kind
-abbrev pub kind_of : Kind → Reading
-kind_of Plain = reading.Plain
-kind_of Part = reading.Part
-kind_of (Adds k) = reading.Adds k
-kind_of Behind = reading.Behind
+-- what a clause of this body shows, and what an argument of a literal shows at a goal position that a row declares so
+abbrev pub body_opens : Rows → Tree → Bool
+body_opens rows t = list_all opens (in_clause rows (record { head = t; body = t; vars = 0; own = false }))
 
--- a body stands at each goal position that the term shows
-abbrev pub opens_as : Kinds → Tree → Reading → Bool
-opens_as ks t k = list_all opens (shown ks None t k)
+abbrev pub argument_opens : Rows → Tree → ℤ → Bool
+argument_opens rows t meta = list_all opens (shown (kinds_in rows) None t (declared_kind meta))
 
-abbrev pub task_opens : Kinds → Task → Bool
-task_opens ks t = opens_as ks t.term (kind_of t.kind)
+-- arguments side by side with their goal positions
+abbrev pub arguments_open : Rows → List Tree → List ℤ → Bool
+arguments_open rows [] ms = true
+arguments_open rows (t ∷ ts) [] = true
+arguments_open rows (t ∷ ts) (m ∷ ms) = argument_opens rows t m && arguments_open rows ts ms
+
+-- the arguments of a literal of this name
+abbrev pub literal_opens : Rows → List ℕ → List Tree → Bool
+literal_opens rows f ts =
+    if is_connective f && length ts == 2 then list_all (body_opens rows) ts
+    else elim (row_of (indicator f (length ts)) rows) [ None ↦ true | Some row ↦ arguments_open rows ts row.metas ]
+
+abbrev pub task_opens : Rows → Task → Bool
+task_opens rows (Part t) = body_opens rows t
+task_opens rows (Argument t m) = argument_opens rows t m
 
 -- what is still to be read; nothing where a position isn't opened
-abbrev pub left_opens : Kinds → Option (Vec Task Global) → Bool
-left_opens ks None = false
-left_opens ks (Some v) = list_all (task_opens ks) v.items
-
--- terms side by side with how they are read
-abbrev pub beside_open : Kinds → List Tree → List Reading → Bool
-beside_open ks [] xs = true
-beside_open ks (t ∷ ts) [] = true
-beside_open ks (t ∷ ts) (x ∷ xs) = opens_as ks t x && beside_open ks ts xs
-
--- a literal of this name and these arguments
-abbrev pub literal_opens : Kinds → List ℕ → List Tree → Bool
-literal_opens ks f ts = beside_open ks ts (ks (indicator f (length ts)))
+abbrev pub left_opens : Rows → Option (Vec Task Global) → Bool
+left_opens rows None = false
+left_opens rows (Some v) = list_all (task_opens rows) v.items

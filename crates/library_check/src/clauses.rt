@@ -8,7 +8,7 @@ ghost use Rattle.sandbox_walk.specs.Keeping.{clause_keeps as clause_keeps_of};
 
 use crate::handing::{Given, hands_on};
 use crate::indicators::indicator;
-use crate::kinds::run_kinds;
+use crate::metas::run_metas;
 use crate::tables::{is_reserved, runs_goals};
 use builtin_table::Table;
 use program::Clause;
@@ -51,7 +51,7 @@ pub(crate) fn clause_keeps(alloc: Global, table: &Table, clause: &Clause) -> Res
     }
     let given = Given {
         arguments: clause.head.arguments(alloc)?,
-        kinds: run_kinds(alloc, table, &pi)?,
+        metas: run_metas(alloc, table, &pi)?,
     };
     hands_on(alloc, table, &given, &clause.body)
 }

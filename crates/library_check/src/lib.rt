@@ -6,7 +6,7 @@ mod clauses;
 mod handing;
 mod indicators;
 mod keeping;
-mod kinds;
+mod metas;
 mod laws;
 mod opening;
 mod predicates;

@@ -1,41 +1,36 @@
 // Whether a body stands at each goal position of a text.
-ghost use Rattle.std.specs.Prelude.{◌≡◌, map, IfOk};
+ghost use Rattle.std.specs.Prelude.{◌≡◌, ◌≢◌, pos, IfOk};
 ghost use Rattle.std.specs.List.{list_all};
-ghost use Rattle.sandbox_walk.specs.declared.found.Kind.TheVariants as reading;
-ghost use Rattle.sandbox_walk.specs.Shown.{Kinds, kinds_in as kinds_of};
+ghost use Rattle.builtin_table.specs.Table.{Rows};
 ghost use Rattle.sandbox_walk.specs.Pending.{arguments_with, is_hat_symbol};
-ghost use Rattle.library_check.specs.Opening.{kind_of, opens_as, task_opens, left_opens, beside_open, literal_opens};
+ghost use Rattle.library_check.specs.Opening.{body_opens, argument_opens, arguments_open, literal_opens, task_opens, left_opens};
 
-use crate::kinds::{Kind, kinds_in};
 use builtin_table::Table;
-use program::is_body;
+use program::{is_body, is_connective};
 use std::alloc::Global;
 use term_core::{Memory, Name, Node, Pi, Term};
 
 const MAX_ARITY: usize = 1024;
 
-// A term that is to be read as an argument of a literal.
+// A term that is still to be read.
 #[derive(Debug, Drop)]
-pub(crate) struct Task {
-    pub(crate) term: Term,
-    pub(crate) kind: Kind,
+pub(crate) enum Task {
+    // a part of a body
+    Part(Term),
+    // an argument of a literal, at a goal position as rows declare it
+    Argument(Term, i8),
 }
 
 // Whether a body stands at each goal position that the body of a clause shows.
 pub(crate) fn opens(alloc: Global, table: &Table, body: &Term) -> Result<bool, Memory>
-    ensures { IfOk result (λ b. b ≡ opens_as (kinds_of table.now) body.now reading.Part) }
+    ensures { IfOk result (λ b. b ≡ body_opens table.now body.now) }
 {
-    let mut tasks = vec![in alloc;
-        Task {
-            term: body.copied(alloc)?,
-            kind: Kind::Part,
-        },
-    ]?;
+    let mut tasks = vec![in alloc; Task::Part(body.copied(alloc)?)]?;
     for _ in 0..u64::MAX {
         let Some(task) = tasks.pop() else {
             return Ok(true);
         };
-        match left(alloc, table, &task)? {
+        match tasks_left(alloc, table, &task)? {
             None => return Ok(false),
             Some(mut more) => tasks.append(&mut more)?,
         }
@@ -44,26 +39,40 @@ pub(crate) fn opens(alloc: Global, table: &Table, body: &Term) -> Result<bool, M
 }
 
 // What is left to read of a term; nothing where it stands at a goal position and isn't opened.
-fn left(alloc: Global, table: &Table, task: &Task) -> Result<Option<Vec<Task>>, Memory>
-    ensures { IfOk result (λ o. left_opens (kinds_of table.now) o ≡ task_opens (kinds_of table.now) task.now) }
+fn tasks_left(alloc: Global, table: &Table, task: &Task) -> Result<Option<Vec<Task>>, Memory>
+    ensures { IfOk result (λ o. left_opens table.now o ≡ task_opens table.now task.now) }
 {
-    match task.kind {
-        Kind::Plain => Ok(Some(Vec::new(alloc))),
-        Kind::Part => part(alloc, table, &task.term),
-        Kind::Adds(count) => goal(alloc, table, &task.term, count),
-        Kind::Behind => behind(alloc, table, &task.term),
+    match task {
+        Task::Part(term) => part(alloc, table, term),
+        Task::Argument(term, meta) => argument(alloc, table, term, *meta),
     }
 }
 
-// A part of a body.
 fn part(alloc: Global, table: &Table, term: &Term) -> Result<Option<Vec<Task>>, Memory>
-    ensures { IfOk result (λ o. left_opens (kinds_of table.now) o ≡ opens_as (kinds_of table.now) term.now reading.Part) }
+    ensures { IfOk result (λ o. left_opens table.now o ≡ body_opens table.now term.now) }
 {
     match term.symbol() {
         Node::Int(_) => Ok(Some(Vec::new(alloc))),
         Node::Var(_) => Ok(None),
         Node::Atom(name) => own_literal(alloc, table, name, term, 0),
         Node::Comp(name, _) => own_literal(alloc, table, name, term, 0),
+    }
+}
+
+fn argument(
+    alloc: Global,
+    table: &Table,
+    term: &Term,
+    meta: i8,
+) -> Result<Option<Vec<Task>>, Memory>
+    ensures { IfOk result (λ o. left_opens table.now o ≡ argument_opens table.now term.now meta) }
+{
+    if meta < 0 {
+        Ok(Some(Vec::new(alloc)))
+    } else if meta == 8 {
+        behind(alloc, table, term)
+    } else {
+        goal(alloc, table, term, meta as u32)
     }
 }
 
@@ -74,7 +83,8 @@ fn goal(
     term: &Term,
     added: u32,
 ) -> Result<Option<Vec<Task>>, Memory>
-    ensures { IfOk result (λ o. left_opens (kinds_of table.now) o ≡ opens_as (kinds_of table.now) term.now (reading.Adds added)) }
+    requires { added ≢ 8 }
+    ensures { IfOk result (λ o. left_opens table.now o ≡ argument_opens table.now term.now (pos added)) }
 {
     match term.symbol() {
         Node::Var(_) | Node::Int(_) => Ok(None),
@@ -96,14 +106,13 @@ fn goal(
 
 // A goal that may stand behind `^`.
 fn behind(alloc: Global, table: &Table, term: &Term) -> Result<Option<Vec<Task>>, Memory>
-    ensures { IfOk result (λ o. left_opens (kinds_of table.now) o ≡ opens_as (kinds_of table.now) term.now reading.Behind) }
+    ensures { IfOk result (λ o. left_opens table.now o ≡ argument_opens table.now term.now (pos 8)) }
 {
     if !is_hat(term.symbol()) {
         return goal(alloc, table, term, 0);
     }
     let args = term.arguments(alloc)?;
-    let kinds = vec![in alloc; Kind::Plain, Kind::Behind]?;
-    Ok(Some(tasks(alloc, &args, &kinds)?))
+    Ok(Some(arguments(alloc, &args, &[-1, 8])?))
 }
 
 fn is_hat(symbol: &Node) -> bool
@@ -123,20 +132,18 @@ fn own_literal(
     term: &Term,
     added: u32,
 ) -> Result<Option<Vec<Task>>, Memory>
-    ensures { IfOk result (λ o. left_opens (kinds_of table.now) o ≡ literal_opens (kinds_of table.now) name.now (arguments_with term.now added)) }
+    ensures { IfOk result (λ o. left_opens table.now o ≡ literal_opens table.now name.now (arguments_with term.now added)) }
 {
     let args = with_variables(alloc, term, added)?;
     Ok(Some(literal(alloc, table, name, &args)?))
 }
 
-fn literal(
-    alloc: Global,
-    table: &Table,
-    name: &Name,
-    args: &[Term],
-) -> Result<Vec<Task>, Memory>
-    ensures { IfOk result (λ v. list_all (task_opens (kinds_of table.now)) v.items ≡ literal_opens (kinds_of table.now) name.now args.now) }
+fn literal(alloc: Global, table: &Table, name: &Name, args: &[Term]) -> Result<Vec<Task>, Memory>
+    ensures { IfOk result (λ v. list_all (task_opens table.now) v.items ≡ literal_opens table.now name.now args.now) }
 {
+    if is_connective(name) && args.len() == 2 {
+        return parts(alloc, args);
+    }
     let Ok(arity) = u32::try_from(args.len()) else {
         return Err(Memory);
     };
@@ -144,20 +151,29 @@ fn literal(
         name: name.copied(alloc)?,
         arity,
     };
-    let kinds = kinds_in(alloc, table, &pi)?;
-    tasks(alloc, args, &kinds)
+    match table.row(&pi) {
+        None => Ok(Vec::new(alloc)),
+        Some(row) => arguments(alloc, args, &row.metas),
+    }
 }
 
-// The arguments side by side with how each is read.
-fn tasks(alloc: Global, args: &[Term], kinds: &[Kind]) -> Result<Vec<Task>, Memory>
-    ensures { IfOk result (λ v. (ks : Kinds) → list_all (task_opens ks) v.items ≡ beside_open ks args.now (map kind_of kinds.now)) }
+fn parts(alloc: Global, args: &[Term]) -> Result<Vec<Task>, Memory>
+    ensures { IfOk result (λ v. (rows : Rows) → list_all (task_opens rows) v.items ≡ list_all (body_opens rows) args.now) }
 {
     let mut tasks = Vec::new(alloc);
-    for i in 0..args.len().min(kinds.len()) {
-        tasks.push(Task {
-            term: args[i].copied(alloc)?,
-            kind: kinds[i],
-        })?;
+    for arg in args {
+        tasks.push(Task::Part(arg.copied(alloc)?))?;
+    }
+    Ok(tasks)
+}
+
+// The arguments side by side with their goal positions.
+fn arguments(alloc: Global, args: &[Term], metas: &[i8]) -> Result<Vec<Task>, Memory>
+    ensures { IfOk result (λ v. (rows : Rows) → list_all (task_opens rows) v.items ≡ arguments_open rows args.now metas.now) }
+{
+    let mut tasks = Vec::new(alloc);
+    for i in 0..args.len().min(metas.len()) {
+        tasks.push(Task::Argument(args[i].copied(alloc)?, metas[i]))?;
     }
     Ok(tasks)
 }

@@ -1,13 +1,14 @@
 // What is asked of the predicates of a program.
-ghost use Rattle.std.specs.Prelude.{◌≡◌, IfOk};
+ghost use Rattle.std.specs.Prelude.{◌≡◌, map, IfOk};
 ghost use Rattle.std.specs.List.{list_all};
 ghost use Rattle.builtin_table.specs.Table.{standard, indicators};
 ghost use Rattle.sandbox_walk.specs.Keeping.{is_closed as is_closed_in, is_there as is_there_in};
+ghost use Rattle.library_check.specs.Opening.{body_opens};
 ghost use Rattle.library_check.specs.Tables.{indicators_in, rows_in};
 
 use crate::opening::opens;
 use builtin_table::Table;
-use program::Program;
+use program::{Clause, Program};
 use std::alloc::Global;
 use term_core::{Memory, Name, Pi};
 
@@ -34,21 +35,23 @@ pub(crate) fn are_closed(
 }
 
 // Whether some goal position that the predicate's clauses show isn't opened.
-fn is_closed(
-    alloc: Global,
-    table: &Table,
-    program: &Program,
-    pi: &Pi,
-) -> Result<bool, Memory>
+fn is_closed(alloc: Global, table: &Table, program: &Program, pi: &Pi) -> Result<bool, Memory>
     requires { table.now ≡ standard }
     ensures { IfOk result (λ b. b ≡ is_closed_in program.now pi.now) }
 {
-    for clause in program.clauses(pi) {
+    let opened = all_open(alloc, table, program.clauses(pi))?;
+    Ok(!opened)
+}
+
+fn all_open(alloc: Global, table: &Table, clauses: &[Clause]) -> Result<bool, Memory>
+    ensures { IfOk result (λ b. b ≡ list_all (body_opens table.now) (map (λ c. c.body) clauses.now)) }
+{
+    for clause in clauses {
         if !opens(alloc, table, &clause.body)? {
-            return Ok(true);
+            return Ok(false);
         }
     }
-    Ok(false)
+    Ok(true)
 }
 
 // Whether the program has clauses of each of these predicates.

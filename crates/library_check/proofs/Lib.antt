@@ -1,0 +1,5 @@
+pub mod Bodies
+pub mod Lists
+pub mod Loading
+pub mod Rows
+pub mod Showing
