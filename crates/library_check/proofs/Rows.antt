@@ -54,10 +54,10 @@ among_both i rs is =
 
 module _ (i : Pi) (vs : List ℤ) (no_parts : (is_connective i.name && i.arity == 2) ≡ false) where
   pub run_helper : (ms : List ℤ) → metas_of (row_of i helpers) ≡ Some ms → vs ≡ ms → map declared_kind vs ≡ run_kinds i
+  unfolding run_kinds
   run_helper ms h v = by (row_of i helpers) refl h
     where
       by : (o : Option Row) → row_of i helpers ≡ o → metas_of o ≡ Some ms → map declared_kind vs ≡ run_kinds i
-      unfolding run_kinds
       by None e g = cc
       by (Some r) e g = let x : vs ≡ r.metas = cc in rw (no_parts, e) (ap (map declared_kind) x)
 

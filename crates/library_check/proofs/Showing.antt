@@ -120,16 +120,16 @@ part_same rows h (integer z) = refl
 part_same rows h (atom f) = refl
 part_same rows h (compound f ts) = refl
 
+kinds_of_parts : (rows : Rows) (i : Pi) → (is_connective i.name && i.arity == 2) ≡ true → kinds_in rows i ≡ part ∷ part ∷ []
+unfolding kinds_in
+kinds_of_parts rows i e = rw e refl
+
 parts_open : (rows : Rows) (h : Option Pi) (i : Pi) (a b : Tree) → (is_connective i.name && i.arity == 2) ≡ true → list_all opens (beside (kinds_in rows) h (a ∷ b ∷ []) (kinds_in rows i)) ≡ (body_opens rows a && (body_opens rows b && true))
 parts_open rows h i a b e =
     ap (λ (xs : List KindOf). list_all opens (beside (kinds_in rows) h (a ∷ b ∷ []) xs)) (kinds_of_parts rows i e)
     ∙ list_all-append opens (shown (kinds_in rows) h a part) (shown (kinds_in rows) h b part ++ [])
     ∙ ap (λ (x : Bool). x && list_all opens (shown (kinds_in rows) h b part ++ [])) (part_same rows h a)
     ∙ ap (λ (x : Bool). body_opens rows a && x) (list_all-append opens (shown (kinds_in rows) h b part) [] ∙ ap (λ (x : Bool). x && true) (part_same rows h b))
-  where
-    kinds_of_parts : (rows : Rows) (i : Pi) → (is_connective i.name && i.arity == 2) ≡ true → kinds_in rows i ≡ part ∷ part ∷ []
-    unfolding kinds_in
-    kinds_of_parts rows i e = rw e refl
 
 -- ---- literals
 
@@ -157,6 +157,15 @@ module _ (rows : Rows) (f : List ℕ) where
       by : (b : Bool) → (is_connective f && length ts == 2) ≡ b → list_all opens (literal_of (kinds_in rows) f ts) ≡ literal_opens rows f ts
       by true e = of_parts ts e (eqb-true (length ts) 2 (and_parts (is_connective f) (length ts == 2) e).1)
       by false e = of_row ts e (row_of (indicator f (length ts)) rows) refl
+
+  pub literal_parts : (ts : List Tree) → (is_connective f && length ts == 2) ≡ true → list_all (body_opens rows) ts ≡ literal_opens rows f ts
+  literal_parts ts e = rw e refl
+
+  pub literal_none : (ts : List Tree) → (is_connective f && length ts == 2) ≡ false → row_of (indicator f (length ts)) rows ≡ None → true ≡ literal_opens rows f ts
+  literal_none ts e g = rw (e, g) refl
+
+  pub literal_row : (ts : List Tree) (r : Row) → (is_connective f && length ts == 2) ≡ false → row_of (indicator f (length ts)) rows ≡ Some r → arguments_open rows ts r.metas ≡ literal_opens rows f ts
+  literal_row ts r e g = rw (e, g) refl
 
 -- ---- one term
 
@@ -228,9 +237,9 @@ with_hat rows (integer z) e = cc
 with_hat rows (atom f) e = cc
 with_hat rows (compound f us) e =
     rw e (sym (
-      ap (list_all opens) (shown_in-beside (kinds_in rows) None us (map declared_kind (negsuc 0 ∷ pos 8 ∷ [])) 0)
-      ∙ ap (λ (ts : List Tree). list_all opens (beside (kinds_in rows) None ts (map declared_kind (negsuc 0 ∷ pos 8 ∷ [])))) (append-nil (tree_list us))
-      ∙ beside_args rows None (tree_list us) (negsuc 0 ∷ pos 8 ∷ [])))
+    ap (list_all opens) (shown_in-beside (kinds_in rows) None us (map declared_kind (negsuc 0 ∷ pos 8 ∷ [])) 0)
+    ∙ ap (λ (ts : List Tree). list_all opens (beside (kinds_in rows) None ts (map declared_kind (negsuc 0 ∷ pos 8 ∷ [])))) (append-nil (tree_list us))
+    ∙ beside_args rows None (tree_list us) (negsuc 0 ∷ pos 8 ∷ [])))
 
 -- ---- clauses
 

@@ -5,11 +5,10 @@ ghost use Rattle.sandbox_walk.specs.Keeping.{has_goal as has_goal_of, is_goal as
 ghost use Rattle.library_check.specs.Bodies.{is_given as is_given_by, left_hands_on};
 ghost use Rattle.sandbox_walk.specs.Shown.{declared_kind};
 
-use crate::indicators::indicator;
+use crate::indicators::{has_parts, indicator};
 use crate::metas::run_metas;
 use crate::tables::is_known;
 use builtin_table::Table;
-use program::is_connective;
 use std::alloc::Global;
 use term_core::{Memory, Node, Term};
 
@@ -35,10 +34,10 @@ pub(crate) fn hands_on(
         let Some(body) = bodies.pop() else {
             return Ok(true);
         };
-        match bodies_left(alloc, table, given, &body)? {
-            None => return Ok(false),
-            Some(mut more) => bodies.append(&mut more)?,
-        }
+        let Some(mut more) = bodies_left(alloc, table, given, &body)? else {
+            return Ok(false);
+        };
+        bodies.append(&mut more)?;
     }
     Err(Memory)
 }
@@ -60,7 +59,7 @@ fn bodies_left(
         return Ok(None);
     }
     let args = body.arguments(alloc)?;
-    if is_connective(&pi.name) && pi.arity == 2 {
+    if has_parts(&pi) {
         return Ok(Some(args));
     }
     let metas = run_metas(alloc, table, &pi)?;

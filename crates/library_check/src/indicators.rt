@@ -1,7 +1,9 @@
 // The predicates that heads and goals are of.
-ghost use Rattle.std.specs.Prelude.{◌≡◌, IfOk};
+ghost use Rattle.std.specs.Prelude.{◌≡◌, ◌&&◌, ◌==◌, IfOk};
+ghost use Rattle.program.specs.Bodies.{is_connective as is_connective_name};
 ghost use Rattle.program.specs.Clauses.{indicator_of};
 
+use program::is_connective;
 use std::alloc::Global;
 use term_core::{Memory, Node, Pi, Term};
 
@@ -20,4 +22,11 @@ pub(crate) fn indicator(alloc: Global, term: &Term) -> Result<Option<Pi>, Memory
             arity: *count,
         })),
     }
+}
+
+// Whether the predicate is `,`, `;` or `->` of two arguments, which are parts of the body that holds it.
+pub(crate) fn has_parts(pi: &Pi) -> bool
+    ensures { result ≡ (is_connective_name pi.now.name && pi.now.arity == 2) }
+{
+    is_connective(&pi.name) && pi.arity == 2
 }

@@ -5,8 +5,9 @@ ghost use Rattle.builtin_table.specs.Table.{Rows};
 ghost use Rattle.sandbox_walk.specs.Pending.{arguments_with, is_hat_symbol};
 ghost use Rattle.library_check.specs.Opening.{body_opens, argument_opens, arguments_open, literal_opens, task_opens, left_opens};
 
+use crate::indicators::has_parts;
 use builtin_table::Table;
-use program::{is_body, is_connective};
+use program::is_body;
 use std::alloc::Global;
 use term_core::{Memory, Name, Node, Pi, Term};
 
@@ -30,10 +31,10 @@ pub(crate) fn opens(alloc: Global, table: &Table, body: &Term) -> Result<bool, M
         let Some(task) = tasks.pop() else {
             return Ok(true);
         };
-        match tasks_left(alloc, table, &task)? {
-            None => return Ok(false),
-            Some(mut more) => tasks.append(&mut more)?,
-        }
+        let Some(mut more) = tasks_left(alloc, table, &task)? else {
+            return Ok(false);
+        };
+        tasks.append(&mut more)?;
     }
     Err(Memory)
 }
@@ -77,17 +78,13 @@ fn argument(
 }
 
 // A goal to which so many arguments are added.
-fn goal(
-    alloc: Global,
-    table: &Table,
-    term: &Term,
-    added: u32,
-) -> Result<Option<Vec<Task>>, Memory>
+fn goal(alloc: Global, table: &Table, term: &Term, added: u32) -> Result<Option<Vec<Task>>, Memory>
     requires { added ≢ 8 }
     ensures { IfOk result (λ o. left_opens table.now o ≡ argument_opens table.now term.now (pos added)) }
 {
     match term.symbol() {
-        Node::Var(_) | Node::Int(_) => Ok(None),
+        Node::Var(_) => Ok(None),
+        Node::Int(_) => Ok(None),
         Node::Atom(name) => own_literal(alloc, table, name, term, added),
         Node::Comp(name, _) => {
             // a compound has 1 to 1,024 arguments
@@ -141,9 +138,6 @@ fn own_literal(
 fn literal(alloc: Global, table: &Table, name: &Name, args: &[Term]) -> Result<Vec<Task>, Memory>
     ensures { IfOk result (λ v. list_all (task_opens table.now) v.items ≡ literal_opens table.now name.now args.now) }
 {
-    if is_connective(name) && args.len() == 2 {
-        return parts(alloc, args);
-    }
     let Ok(arity) = u32::try_from(args.len()) else {
         return Err(Memory);
     };
@@ -151,6 +145,9 @@ fn literal(alloc: Global, table: &Table, name: &Name, args: &[Term]) -> Result<V
         name: name.copied(alloc)?,
         arity,
     };
+    if has_parts(&pi) {
+        return parts(alloc, args);
+    }
     match table.row(&pi) {
         None => Ok(Vec::new(alloc)),
         Some(row) => arguments(alloc, args, &row.metas),
