@@ -1,4 +1,5 @@
 pub mod Chunks
+pub mod Coming
 pub mod Cutting
 pub mod Ending
 pub mod Growing

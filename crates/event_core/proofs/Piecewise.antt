@@ -1,5 +1,5 @@
 -- Pieces one after the other, where further stops follow, come to the part of all stops.
-use Rattle.std.proofs.Common.{◌≡◌, ℕ, zero, suc, ◌≤◌, ◌<◌, Bool, true, false, List, [], ◌∷◌, ◌++◌, length, drop, get_or, Some, None, refl, ap, sym, subst, ◌∙◌, append-nil, arith}
+use Rattle.std.proofs.Common.{◌≡◌, ℕ, zero, suc, ◌+◌, ◌≤◌, ◌<◌, Bool, true, false, List, [], ◌∷◌, ◌++◌, length, drop, get_or, Some, None, refl, ap, sym, subst, ◌∙◌, append-nil, length-append, arith}
 use Rattle.std.proofs.Math.Seq.{drop-cons}
 use Rattle.std.specs.List.{All}
 use Rattle.std.specs.Option.{MatchOption}
@@ -16,10 +16,12 @@ use Rattle.event_core.specs.declared.fit.Fit.TheVariants.{GoesOn, Stops as Ends,
 use Rattle.event_core.specs.declared.rest.Rest.{Rest}
 use Rattle.event_core.specs.declared.rest.Rest.TheVariants.{More, Prompting, Over}
 use Rattle.event_core.specs.Requests.{fit, chunk_after}
-use Rattle.event_core.specs.Parts.{Part, rests, gives, at_next, at_respond, after_chunk, is_full, part_of, part_step}
+use Rattle.event_core.specs.Parts.{Part, rests, gives, at_next, at_respond, after_chunk, is_full, part_of, part_step, replies}
 use Rattle.event_core.specs.Pieces.{Piece, telling, piece_of, Seen, seen, adds}
 use Rattle.event_core.specs.Reads.{resumes, pieces_from, rest_reached}
+use Rattle.event_core.specs.Endings.{AfterStop, HasEnd}
 use Rattle.event_core.specs.Reaching.{IsBegun, IsWhole}
+use Rattle.event_core.proofs.Coming.{stops_tell, lengthens_too}
 use Rattle.event_core.proofs.Growing.{adds_twice, further, Parted, parted}
 use Rattle.event_core.proofs.Reaching.{Each}
 use Rattle.event_core.proofs.Standing.{nothing, goes_on}
@@ -182,6 +184,10 @@ module _ (size : Tree → ℕ) where
       let g : Parted size c ps (piece_of size c ps []) = parted size c ps in
       comes rs (piece_of size c ps []) c (λ qs. seen (part_of size (ps ++ qs) c [] rs)) (record { held = g.behind; is = λ qs. g.is qs rs; prompts = g.prompts })
 
+  one_ends : (k : ℕ) (s : Stop) → AfterStop ⊥ s 0 (HasEnd ⊥ []) → HasEnd ⊥ ((k, s) ∷ []) 0
+  unfolding HasEnd
+  one_ends k s h = h
+
   none : (d : ℕ) (held : List Tree) (qs : List Request) → seen (part_of size [] d held qs) ≡ record { events = []; rest = Prompting }
   unfolding part_of
   none d held qs = refl
@@ -229,6 +235,20 @@ module _ (size : Tree → ℕ) where
           later = All-from_recursion (λ e. n ≤ e.0) x.events (events_each (λ k. n ≤ k) size b.further (recursion_from_All (λ s. n ≤ s.0) b.further b.later) come.chunk come.held come.unread);
         }
 
+    -- and where they end otherwise than outside, an event is left
+    event_left : (qs : Stops) → all ≡ ps ++ qs → p.ran_out ≡ true → HasEnd ⊥ all (length (replies rs)) → length p.events < length part.events
+    event_left qs e out w =
+        let some : Stops = (0, stop.NoMore) ∷ [] in
+        let behind_known : (xs : Stops) → length (part_of size (ps ++ xs) c [] rs).events ≡ length p.events + length (part_of size xs come.chunk come.held come.unread).events =
+        (λ xs. ap (λ (x : Seen). length x.events) (come.is xs ∙ ap (λ b. adds p.events (behind b p.rest come.chunk come.held come.unread xs)) out) ∙ length-append p.events _) in
+        let known : length (part_of size ps c [] rs).events ≡ length p.events + 0 =
+        ap (λ l. length (part_of size l c [] rs).events) (sym (append-nil ps)) ∙ behind_known [] ∙ ap (λ (x : Seen). length p.events + length x.events) (none come.chunk come.held come.unread) in
+        let more : 0 < length (part_of size some come.chunk come.held come.unread).events = stops_tell size some 0 (one_ends 0 stop.NoMore tt) come.chunk come.held come.unread in
+        let l : length (part_of size ps c [] rs).events < length (part_of size (ps ++ some) c [] rs).events = omega (arith, known, behind_known some, more) in
+        let g : length (part_of size ps c [] rs).events < length (part_of size (ps ++ qs) c [] rs).events = lengthens_too size ps some qs c [] rs (subst (λ l. HasEnd ⊥ l (length (replies rs))) e w) l in
+        let same : length part.events ≡ length (part_of size (ps ++ qs) c [] rs).events = ap (λ l. length (part_of size l c [] rs).events) e in
+        omega (arith, known, g, same)
+
     pub whole_at_rest : (n : ℕ) → IsBegun n ps all → p.ran_out ≡ false → IsWhole part p.events p.rest
     whole_at_rest n b out = at_rest b.further b.are out
 
@@ -249,3 +269,12 @@ module _ (size : Tree → ℕ) where
         go true false e f = whole (ended f)
         go false true e f = whole_at_rest steps (more f) e
         go false false e f = whole (ended f)
+
+    -- where no rest was reached an event is left
+    pub left_to_come : (goes_on : Bool) (steps : ℕ) → (goes_on ≡ true → IsBegun steps ps all) → HasEnd ⊥ all (length (replies rs)) → rest_reached p.rest p.ran_out goes_on ≡ None → length p.events < length part.events
+    left_to_come goes_on steps more w = go p.ran_out goes_on refl refl
+      where
+        go : (b o : Bool) → p.ran_out ≡ b → goes_on ≡ o → rest_reached p.rest b o ≡ None → length p.events < length part.events
+        go true true e f n = event_left (more f).further (more f).are e w
+        go true false e f n = cc
+        go false o e f n = cc

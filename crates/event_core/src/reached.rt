@@ -1,8 +1,10 @@
 // The events of a query as far as a number of steps reaches.
-ghost use Rattle.std.specs.Prelude.{◌≡◌, ◌<◌, ◌≤◌, min, All, [], IfOk, MatchOption};
+ghost use Rattle.std.specs.Prelude.{◌≡◌, ◌<◌, ◌≤◌, min, length, All, None, [], IfOk, MatchOption};
+ghost use Rattle.solve_model.specs.Trace.{world_of};
 ghost use Rattle.event_core.specs.Texts.{quoted};
 ghost use Rattle.event_core.specs.Fits.{text_size};
 ghost use Rattle.event_core.specs.Requests.{fit};
+ghost use Rattle.event_core.specs.Laws.{StaysInside, replying};
 ghost use Rattle.event_core.specs.Reads.{piece_at, rest_of, rest_reached, resumes, pieces_from};
 ghost use Rattle.event_core.specs.Reaching.{IsBegun, IsWhole};
 ghost use Rattle.event_core.specs.Standing.{spec_of};
@@ -73,8 +75,8 @@ fn rest_reached(rest: Rest, ran_out: bool, goes_on: bool) -> Option<Rest>
 /// The events of a query for these requests after its ask, as far as `steps` steps reach.
 ///
 /// Where the query comes to a rest within that many steps, or within its limit, these are all its events and `rest` tells where it
-/// rests. Otherwise `rest` is `None`: the steps are fewer than the limit, and each further event comes after more steps. Requests
-/// are read in order, as long as each fits at the rest before it.
+/// rests. Otherwise `rest` is `None`: the steps are fewer than the limit, each further event comes after at least as many, and one
+/// comes, unless a call reaches outside. Requests are read in order, as long as each fits at the rest before it.
 pub fn reach(
     alloc: Global,
     program: &Program,
@@ -86,6 +88,9 @@ pub fn reach(
     ensures events { IfOk result (λ r.
         let part = (spec_of program.now settings).part ask.now requests.now in
         MatchOption r.rest ((steps < settings.limit) × IsBegun steps r.events part.events) (λ x. IsWhole part r.events x)) }
+    ensures left { IfOk result (λ r.
+        r.rest ≡ None → StaysInside (replying (world_of program.now [] settings.limit) requests.now) ask.now.goal ask.now.template →
+        length r.events < length ((spec_of program.now settings).part ask.now requests.now).events) }
     ensures in_time { IfOk result (λ r. All (λ x. x.0 ≤ min steps settings.limit) r.events) }
 {
     let chunk = first_chunk(settings, ask);

@@ -2,7 +2,7 @@ use crate::{
     Options, RequestFault, ScriptFault, Sent, SpecFault, place_of, read_request, read_script,
     read_spec, request_bytes,
 };
-use event_core::Request;
+use event_core::{Request, Spec};
 use lib_text::Library;
 use program::ProgFault;
 use std::alloc::Global;
@@ -220,17 +220,24 @@ fn names_are_shared(rt: HostRuntime) -> Result<(), Fail> {
     let alloc = rt.alloc();
     let library = Library::read(alloc)?;
     let options = options(alloc, "p(X,_,Y)", "f(Y,Z,_,X)", "p(a,b,c).")?;
-    let spec = read_spec(alloc, &library, &options)?;
+    let Spec {
+        program,
+        ask,
+        chunk,
+        limit,
+        destroy,
+        bytes,
+    } = read_spec(alloc, &library, &options)?;
     let pi = Pi {
         name: Name::new(alloc, "p")?,
         arity: 3,
     };
-    assert_eq!(rt; spec.program.clauses(&pi).len(), 1);
-    assert_eq!(rt; spec.chunk, 2);
-    assert_eq!(rt; spec.limit, 9);
-    assert!(rt; !spec.destroy);
-    assert_eq!(rt; spec.bytes, 9);
-    let Some(ask) = spec.ask else {
+    assert_eq!(rt; program.clauses(&pi).len(), 1);
+    assert_eq!(rt; chunk, 2);
+    assert_eq!(rt; limit, 9);
+    assert!(rt; !destroy);
+    assert_eq!(rt; bytes, 9);
+    let Some(ask) = ask else {
         panic!(rt; "no query")
     };
     let written = request_bytes(alloc, &Sent::Request(Request::Ask(ask)))?;
