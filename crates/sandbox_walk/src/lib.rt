@@ -8,6 +8,7 @@ mod found;
 mod kinds;
 mod laws;
 mod open;
+mod positions;
 mod reach;
 mod refusal;
 mod seen;
@@ -20,6 +21,7 @@ pub use laws::{
     loaded_programs_keep_the_sandbox, passed_goals_stay_inside, safe_goals_stay_inside,
     the_verdict_is_one,
 };
+pub use positions::goals_are_bodies;
 pub use unsafe_goal::Unsafe;
 pub use verdict::{Passed, check};
 

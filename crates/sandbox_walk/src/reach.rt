@@ -95,7 +95,11 @@ fn has_own(clauses: &[Clause]) -> bool
 }
 
 // What these clauses show.
-fn in_clauses(alloc: Global, table: &Table, clauses: &[Clause]) -> Result<Vec<Found>, Memory>
+pub(crate) fn in_clauses(
+    alloc: Global,
+    table: &Table,
+    clauses: &[Clause],
+) -> Result<Vec<Found>, Memory>
     ensures { IfOk result (λ v. v.items ≡ flat_map (in_clause table.now) (map clause_of clauses.now)) }
 {
     let mut all = Vec::new(alloc);
