@@ -2,4 +2,3 @@ pub mod Bodies
 pub mod Lists
 pub mod Loading
 pub mod Rows
-pub mod Showing

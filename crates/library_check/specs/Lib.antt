@@ -1,4 +1,3 @@
 pub mod Bodies
 pub mod Loaded
-pub mod Opening
 pub mod Tables

@@ -29,7 +29,7 @@ pub fn keeps_sandbox(alloc: Global, program: &Program) -> Result<bool, Memory>
     if !clauses_keep(alloc, &table, &clauses)? {
         return Ok(false);
     }
-    if !are_closed(alloc, &table, program, &HELPERS)? {
+    if !are_closed(alloc, program, &HELPERS)? {
         return Ok(false);
     }
     are_there(alloc, program, &LIBRARY)

@@ -8,7 +8,6 @@ mod indicators;
 mod keeping;
 mod laws;
 mod metas;
-mod opening;
 mod predicates;
 mod tables;
 

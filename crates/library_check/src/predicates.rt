@@ -1,25 +1,21 @@
 // What is asked of the predicates of a program.
-ghost use Rattle.std.specs.Prelude.{◌≡◌, map, IfOk};
+ghost use Rattle.std.specs.Prelude.{◌≡◌, IfOk};
 ghost use Rattle.std.specs.List.{list_all};
-ghost use Rattle.builtin_table.specs.Table.{standard, indicators};
+ghost use Rattle.builtin_table.specs.Table.{indicators};
 ghost use Rattle.sandbox_walk.specs.Keeping.{is_closed as is_closed_in, is_there as is_there_in};
-ghost use Rattle.library_check.specs.Opening.{body_opens};
 ghost use Rattle.library_check.specs.Tables.{indicators_in, rows_in};
 
-use crate::opening::opens;
-use builtin_table::Table;
-use program::{Clause, Program};
+use program::Program;
+use sandbox_walk::goals_are_bodies;
 use std::alloc::Global;
 use term_core::{Memory, Name, Pi};
 
 // Whether a goal that reaches one of these predicates doesn't pass.
 pub(crate) fn are_closed(
     alloc: Global,
-    table: &Table,
     program: &Program,
     rows: &[(&str, u32, [i8; 8])],
 ) -> Result<bool, Memory>
-    requires { table.now ≡ standard }
     ensures { IfOk result (λ b. b ≡ list_all (is_closed_in program.now) (indicators (rows_in rows.now))) }
 {
     for (name, arity, _) in rows {
@@ -27,31 +23,19 @@ pub(crate) fn are_closed(
             name: Name::new(alloc, name)?,
             arity: *arity,
         };
-        if !is_closed(alloc, table, program, &pi)? {
+        if !is_closed(alloc, program, &pi)? {
             return Ok(false);
         }
     }
     Ok(true)
 }
 
-// Whether some goal position that the predicate's clauses show isn't opened.
-fn is_closed(alloc: Global, table: &Table, program: &Program, pi: &Pi) -> Result<bool, Memory>
-    requires { table.now ≡ standard }
+// Whether some goal position that the predicate's clauses show holds no body.
+fn is_closed(alloc: Global, program: &Program, pi: &Pi) -> Result<bool, Memory>
     ensures { IfOk result (λ b. b ≡ is_closed_in program.now pi.now) }
 {
-    let opened = all_open(alloc, table, program.clauses(pi))?;
-    Ok(!opened)
-}
-
-fn all_open(alloc: Global, table: &Table, clauses: &[Clause]) -> Result<bool, Memory>
-    ensures { IfOk result (λ b. b ≡ list_all (body_opens table.now) (map (λ c. c.body) clauses.now)) }
-{
-    for clause in clauses {
-        if !opens(alloc, table, &clause.body)? {
-            return Ok(false);
-        }
-    }
-    Ok(true)
+    let open = goals_are_bodies(alloc, program, pi)?;
+    Ok(!open)
 }
 
 // Whether the program has clauses of each of these predicates.
