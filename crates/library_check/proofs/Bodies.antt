@@ -1,5 +1,5 @@
 -- What a body hands on, by its indicator and arguments.
-use Rattle.std.proofs.Common.{◌≡◌, ℕ, Bool, true, false, ◌&&◌, ◌==◌, List, [], ◌∷◌, map, ℤ, if◌then◌else◌, Option, Some, None, refl, ap, sym, ◌∙◌}
+use Rattle.std.proofs.Common.{◌≡◌, ℕ, ◌≤◌, min, length, drop, Bool, true, false, ◌&&◌, ◌==◌, List, [], ◌∷◌, map, ℤ, if◌then◌else◌, Option, Some, None, refl, ap, sym, ◌∙◌}
 use Rattle.std.specs.List.{list_all}
 use Rattle.term_core.specs.declared.pi.Pi.{Pi}
 use Rattle.term_core.specs.Tree.{Tree, variable, integer, atom, compound, Trees, no_trees, tree, arity, tree_list}
@@ -7,8 +7,8 @@ use Rattle.term_core.specs.Parts.{arguments_of}
 use Rattle.program.specs.Bodies.{is_connective}
 use Rattle.program.specs.Clauses.{indicator_of}
 use Rattle.sandbox_walk.specs.Shown.{declared_kind, indicator}
-use Rattle.sandbox_walk.specs.Keeping.{is_known, hands_on, all_hand_on, hands_arguments, run_kinds}
-use Rattle.library_check.proofs.Lists.{none_of, first_of_two, second_of_two}
+use Rattle.sandbox_walk.specs.Keeping.{is_known, has_goal, hands_on, all_hand_on, hands_arguments, run_kinds}
+use Rattle.library_check.proofs.Lists.{both_end, none_of, first_of_two, second_of_two}
 
 module _ (given : ℕ → ℕ → Bool) where
   all_by : (ts : Trees) → all_hand_on given ts ≡ list_all (hands_on given) (tree_list ts)
@@ -59,3 +59,20 @@ module _ (given : ℕ → ℕ → Bool) where
     hands_literal args ms b k c a m h =
         h ∙ ap (λ (us : List Tree). hands_arguments given us (map declared_kind ms)) a ∙ ap (hands_arguments given (arguments_of t)) m
         ∙ sym (hands_by t i of ∙ second_of_two (is_known i) (is_connective i.name && i.arity == 2) (list_all (hands_on given) (arguments_of t)) (hands_arguments given (arguments_of t) (run_kinds i)) k c)
+
+-- ---- behind the last argument that has a goal position
+
+module _ (ts : List Tree) (ms : List ℤ) (i : ℕ) (past : min (length ts) (length ms) ≤ i) where
+  pub no_goal_left : (n k : ℕ) → has_goal (drop i ts) (map declared_kind (drop i ms)) n k ≡ false
+  no_goal_left n k = both_end (λ us vs. has_goal us (map declared_kind vs) n k) false (λ vs. refl) ends ts ms i past
+    where
+      ends : (us : List Tree) → has_goal us [] n k ≡ false
+      ends [] = refl
+      ends (u ∷ us) = refl
+
+  pub no_argument_left : (given : ℕ → ℕ → Bool) → hands_arguments given (drop i ts) (map declared_kind (drop i ms)) ≡ true
+  no_argument_left given = both_end (λ us vs. hands_arguments given us (map declared_kind vs)) true (λ vs. refl) ends ts ms i past
+    where
+      ends : (us : List Tree) → hands_arguments given us [] ≡ true
+      ends [] = refl
+      ends (u ∷ us) = refl

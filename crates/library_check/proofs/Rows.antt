@@ -1,5 +1,5 @@
 -- The tables that the code holds are those of the definition.
-use Rattle.std.proofs.Common.{◌≡◌, ℕ, Bool, true, false, ◌&&◌, ◌||◌, ◌==◌, cond, List, [], ◌∷◌, ◌++◌, map, ℤ, IsTrue, Option, Some, None, is_some, refl, ap, sym, subst, ◌∙◌}
+use Rattle.std.proofs.Common.{codes, ◌≡◌, ℕ, Bool, true, false, ◌&&◌, ◌||◌, ◌==◌, cond, List, [], ◌∷◌, ◌++◌, map, ℤ, IsTrue, Option, Some, None, is_some, refl, ap, sym, subst, ◌∙◌}
 use Rattle.std.specs.List.{list_any}
 use Rattle.std.specs.Option.{option_map}
 use Rattle.std.proofs.lemmas.List.Folds.{list_any-append}
@@ -8,8 +8,8 @@ use Rattle.builtin_table.specs.declared.row.Row.{Row}
 use Rattle.builtin_table.specs.Table.{Rows, row_of, standard, indicators}
 use Rattle.program.specs.Bodies.{is_connective}
 use Rattle.program.specs.Clauses.{same_indicator}
-use Rattle.sandbox_walk.specs.Shown.{declared_kind, kinds_in}
-use Rattle.sandbox_walk.specs.Keeping.{helpers, run_kinds}
+use Rattle.sandbox_walk.specs.Shown.{declared_kind, kinds_in, indicator}
+use Rattle.sandbox_walk.specs.Keeping.{helpers, run_kinds, is_known, is_library_row, runs_goals}
 use Rattle.sandbox_walk.proofs.Walking.{same, itself}
 
 differ : true ≡ false → ⊥
@@ -43,12 +43,41 @@ some_mapped f (Some x) = refl
 abbrev metas_of : Option Row → Option (List ℤ)
 metas_of o = option_map (λ (r : Row). r.metas) o
 
-pub is_helper : (i : Pi) (o : Option (List ℤ)) → o ≡ metas_of (row_of i helpers) → is_some o ≡ is_some (row_of i helpers)
+is_helper : (i : Pi) (o : Option (List ℤ)) → o ≡ metas_of (row_of i helpers) → is_some o ≡ is_some (row_of i helpers)
 is_helper i o e = ap is_some e ∙ some_mapped (λ (r : Row). r.metas) (row_of i helpers)
 
-pub among_both : (i : Pi) (rs : Rows) (is : List Pi) → (is_some (row_of i rs) || list_any (same_indicator i) is) ≡ list_any (same_indicator i) (indicators rs ++ is)
+among_both : (i : Pi) (rs : Rows) (is : List Pi) → (is_some (row_of i rs) || list_any (same_indicator i) is) ≡ list_any (same_indicator i) (indicators rs ++ is)
 among_both i rs is =
     ap (λ (b : Bool). b || list_any (same_indicator i) is) (row_among i rs) ∙ sym (list_any-append (same_indicator i) (indicators rs) is)
+
+-- what clauses that run goals may call beside the helpers
+abbrev called : List Pi
+called =
+    indicator (codes "true") 0 ∷ indicator (codes "fail") 0 ∷ indicator (codes ",") 2 ∷ indicator (codes ";") 2 ∷ indicator (codes "->") 2
+    ∷ indicator (codes "\\+") 1 ∷ indicator (codes "=") 2 ∷ indicator (codes "call") 2 ∷ indicator (codes "call") 3 ∷ indicator (codes "call") 4 ∷ indicator (codes "call") 5 ∷ []
+
+first_true : (a b c : Bool) → a ≡ true → c ≡ a → c ≡ (a || b)
+first_true true b c e f = f
+first_true false b c e f = cc
+
+second : (a b : Bool) → a ≡ false → b ≡ (a || b)
+second true b e = cc
+second false b e = refl
+
+module _ (i : Pi) (o : Option (List ℤ)) (of_helper : o ≡ metas_of (row_of i helpers)) where
+  pub known_helper : (b : Bool) → b ≡ is_some o → b ≡ true → b ≡ is_known i
+  known_helper b e f =
+      let h : b ≡ is_some (row_of i helpers) = e ∙ is_helper i o of_helper in
+      first_true (is_some (row_of i helpers)) (list_any (same_indicator i) called) b (sym h ∙ f) h ∙ among_both i helpers called
+
+  pub known_called : (a b : Bool) → a ≡ is_some o → a ≡ false → b ≡ list_any (same_indicator i) called → b ≡ is_known i
+  known_called a b e f k =
+      k ∙ second (is_some (row_of i helpers)) (list_any (same_indicator i) called) (sym (e ∙ is_helper i o of_helper) ∙ f) ∙ among_both i helpers called
+
+  pub helper_runs : (rows : Rows) (a b : Bool) → rows ≡ standard → a ≡ is_library_row (row_of i rows) → a ≡ false → b ≡ is_some o → b ≡ runs_goals i
+  helper_runs rows a b t e f h =
+      h ∙ is_helper i o of_helper
+      ∙ second (is_library_row (row_of i standard)) (is_some (row_of i helpers)) (ap (λ (rs : Rows). is_library_row (row_of i rs)) (sym t) ∙ sym e ∙ f)
 
 -- ---- goal positions
 

@@ -51,9 +51,15 @@ pub(crate) fn are_there(
             name: Name::new(alloc, name)?,
             arity: *arity,
         };
-        if program.clauses(&pi).is_empty() {
+        if !is_there(program, &pi) {
             return Ok(false);
         }
     }
     Ok(true)
+}
+
+fn is_there(program: &Program, pi: &Pi) -> bool
+    ensures { result ≡ is_there_in program.now pi.now }
+{
+    !program.clauses(pi).is_empty()
 }
