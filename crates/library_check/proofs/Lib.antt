@@ -1,4 +1,5 @@
 pub mod Bodies
+pub mod Kept
 pub mod Lists
 pub mod Loading
 pub mod Rows
