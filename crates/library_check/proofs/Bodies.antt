@@ -1,5 +1,5 @@
 -- What a body hands on, by its indicator and arguments.
-use Rattle.std.proofs.Common.{◌≡◌, ℕ, ◌≤◌, min, length, drop, Bool, true, false, ◌&&◌, ◌==◌, List, [], ◌∷◌, map, ℤ, if◌then◌else◌, Option, Some, None, refl, ap, sym, ◌∙◌}
+use Rattle.std.proofs.Common.{◌≡◌, ℕ, ◌≤◌, min, length, drop, Bool, true, false, ◌&&◌, ◌==◌, List, [], ◌∷◌, map, ℤ, if◌then◌else◌, Some, None, refl, ap, sym, ◌∙◌}
 use Rattle.std.specs.List.{list_all}
 use Rattle.term_core.specs.declared.pi.Pi.{Pi}
 use Rattle.term_core.specs.Tree.{Tree, variable, integer, atom, compound, Trees, no_trees, tree, arity, tree_list}

@@ -1,7 +1,7 @@
 -- What a clause and a program have to keep, one part after another.
-use Rattle.std.proofs.Common.{◌≡◌, ℕ, Bool, true, false, not, ◌&&◌, ◌||◌, ◌==◌, List, [], ◌∷◌, map, ℤ, if◌then◌else◌, IsTrue, codes, bytes_eq, Option, Some, None, refl, ap, sym, ◌∙◌, ◌⊎◌, inl, inr}
+use Rattle.std.proofs.Common.{◌≡◌, Bool, true, false, not, ◌&&◌, ◌||◌, ◌==◌, List, [], ◌∷◌, map, ℤ, if◌then◌else◌, IsTrue, codes, bytes_eq, Option, Some, None, refl, ap, sym, ◌∙◌, ◌⊎◌, inl, inr}
 use Rattle.std.specs.List.{list_all}
-use Rattle.std.proofs.lemmas.Bool.{and_parts, eqb-true}
+use Rattle.std.proofs.lemmas.Bool.{and_parts}
 use Rattle.term_core.specs.declared.pi.Pi.{Pi}
 use Rattle.term_core.specs.Tree.{Tree}
 use Rattle.term_core.specs.Parts.{arguments_of}
@@ -87,8 +87,8 @@ module _ (p cs : List Clause) (k : Bool) (are : cs ≡ p) (keep : k ≡ list_all
 
     pub there_keeps : d ≡ true → (b : Bool) →
         b ≡ list_all (is_there p)
-            (indicator (codes "maplist") 2 ∷ indicator (codes "maplist") 3 ∷ indicator (codes "maplist") 4 ∷ indicator (codes "maplist") 5 ∷ indicator (codes "foldl") 4
-            ∷ indicator (codes "include") 3 ∷ indicator (codes "exclude") 3 ∷ []) → b ≡ keeps_sandbox p
+        (indicator (codes "maplist") 2 ∷ indicator (codes "maplist") 3 ∷ indicator (codes "maplist") 4 ∷ indicator (codes "maplist") 5 ∷ indicator (codes "foldl") 4
+        ∷ indicator (codes "include") 3 ∷ indicator (codes "exclude") 3 ∷ []) → b ≡ keeps_sandbox p
     unfolding keeps_sandbox
     there_keeps e b h =
         h ∙ ap (list_all (is_there p)) (sym rows_are)

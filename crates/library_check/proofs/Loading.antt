@@ -2,7 +2,7 @@
 use Rattle.std.proofs.Common.{◌≡◌, ℕ, ◌+◌, Bool, true, false, not, ◌&&◌, ◌||◌, List, [], ◌∷◌, filter, length, if◌then◌else◌, codes, bytes_eq, Option, Some, None, is_some, refl, ap, sym, subst, ◌∙◌, append-nil}
 use Rattle.std.specs.List.{list_all, cons_option}
 use Rattle.term_core.specs.declared.pi.Pi.{Pi}
-use Rattle.term_core.specs.Tree.{Tree, variable, integer, atom, compound, Trees, no_trees, tree}
+use Rattle.term_core.specs.Tree.{Tree, variable, integer, atom, compound, no_trees, tree}
 use Rattle.term_core.specs.Variables.{variables}
 use Rattle.builtin_table.specs.Table.{standard, reserved_of}
 use Rattle.program.specs.declared.fault.ProgFault.{ProgFault}

@@ -21,6 +21,6 @@ pub returns : goal.returns
 returns c =
     IfOk-weaker c.are_there.result _ _
     (λ b h. there_keeps c.args.program.now (map (λ (x : Bor kept.Clause). clause_of x.now) c.deref.result.now) c.in_ok-clauses_keep.field-0
-      (ap (map (λ (x : Bor kept.Clause). clause_of x.now)) c.deref.ensures.value ∙ c.in_ok-clauses.ensures) c.in_ok-clauses_keep.ensures c.if-not-branch.false
-      c.in_ok-are_closed.field-0 c.in_ok-are_closed.ensures c.if-not-branch-2.false b h)
+    (ap (map (λ (x : Bor kept.Clause). clause_of x.now)) c.deref.ensures.value ∙ c.in_ok-clauses.ensures) c.in_ok-clauses_keep.ensures c.if-not-branch.false
+    c.in_ok-are_closed.field-0 c.in_ok-are_closed.ensures c.if-not-branch-2.false b h)
     c.are_there.ensures
