@@ -1,0 +1,11 @@
+use Rattle.std.proofs.Common.{true, false, List, ap, ◌∙◌}
+use Rattle.term_core.specs.declared.read_term.ReadTerm.{ReadTerm}
+use Rattle.program.specs.Source.{clauses_in, trees_read, program_of}
+use Rattle.library_check.proofs.Loading.{alone}
+use Rattle.library_check.proofs.keeping.alone.Goals as goal
+
+pub returns-in-Ok : goal.returns-in-Ok
+returns-in-Ok c =
+    c.in-Ok.ensures.program
+    ∙ ap (λ (ts : List ReadTerm). program_of (clauses_in false (trees_read c.args.library.now)) (clauses_in true (trees_read ts))) c.new.ensures.items
+    ∙ alone (clauses_in false (trees_read c.args.library.now))

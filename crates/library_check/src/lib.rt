@@ -1,0 +1,18 @@
+//! Whether a program keeps to what the sandbox asks of it, computed over its clauses, and what follows for programs that are
+//! loaded over a library that does.
+#![tactic(auto)]
+
+mod clauses;
+mod handing;
+mod indicators;
+mod keeping;
+mod laws;
+mod metas;
+mod predicates;
+mod tables;
+
+pub use keeping::{keeps_sandbox, library_keeps_sandbox};
+pub use laws::{accepted_texts_keep_the_sandbox, checks_are_sound};
+
+#[cfg(test)]
+mod tests;
