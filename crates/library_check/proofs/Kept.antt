@@ -11,19 +11,12 @@ use Rattle.program.specs.Clauses.{Clause, indicator_of}
 use Rattle.sandbox_walk.specs.Shown.{declared_kind, indicator}
 use Rattle.sandbox_walk.specs.Keeping.{helpers, has_goal, hands_on, run_kinds, runs_goals, is_reserved, keeps_of, clause_keeps, is_closed, is_there, library_rows, keeps_sandbox}
 use Rattle.sandbox_walk.proofs.Walking.{same, or_either}
-use Rattle.library_check.proofs.Lists.{none_of}
-
-differ : true ≡ false → ⊥
-differ e = cc
-
-both_true : (a b : Bool) → a ≡ true → b ≡ true → (a && b) ≡ true
-both_true true b e f = f
-both_true false b e f = cc
+use Rattle.library_check.proofs.Lists.{differ, both, none_of}
 
 -- ---- a predicate with parts is reserved
 
 named : (i j : Pi) → bytes_eq i.name j.name ≡ true → (i.arity == j.arity) ≡ true → i ≡ j
-named i j e f = same i j (both_true (bytes_eq i.name j.name) (i.arity == j.arity) e f)
+named i j e f = same i j (both (bytes_eq i.name j.name) (i.arity == j.arity) e f)
 
 taken : (is_reserved (indicator (codes ",") 2) ≡ true) × ((is_reserved (indicator (codes ";") 2) ≡ true) × (is_reserved (indicator (codes "->") 2) ≡ true))
 unfolding standard

@@ -11,9 +11,7 @@ use Rattle.program.specs.Clauses.{same_indicator}
 use Rattle.sandbox_walk.specs.Shown.{declared_kind, kinds_in, indicator}
 use Rattle.sandbox_walk.specs.Keeping.{helpers, run_kinds, is_known, is_library_row, runs_goals}
 use Rattle.sandbox_walk.proofs.Walking.{same, itself}
-
-differ : true ≡ false → ⊥
-differ e = cc
+use Rattle.library_check.proofs.Lists.{differ}
 
 one_way : (i j : Pi) → IsTrue (same_indicator i j) → IsTrue (same_indicator j i)
 one_way i j h = subst (λ (x : Pi). IsTrue (same_indicator x i)) (same i j h) (itself i)
