@@ -27,6 +27,3 @@ pub use session::Session;
 pub use took::Took;
 pub use turn::Turn;
 pub use waiting::Waiting;
-
-#[cfg(test)]
-mod tests;
