@@ -10,10 +10,11 @@ use Rattle.event_core.specs.declared.request.Request.{Request}
 use Rattle.event_core.specs.declared.settings.Settings.{Settings}
 use Rattle.event_core.specs.Parts.{part}
 use Rattle.event_core.specs.Laws.{Begins, StaysInside, replying}
-use Rattle.event_core.specs.Full.{Spec, full}
+use Rattle.event_core.specs.Full.{Spec, Query, full}
 use Rattle.event_core.specs.Standing.{spec_of}
 use Rattle.session.specs.After.{State, Running, Pengine, Entry, after, made, most_waiting, most_requests, waiting}
 use Rattle.session.specs.Legal.{IsLegal, IsRunning, Holds, acts}
+use Rattle.session.specs.TurnsKept.{IsAhead}
 
 -- The events of a query are those that resolution gives, and no goal that the sandbox passes reaches outside.
 pub record IsResolution (spec : Spec) : Type 0 where
@@ -27,6 +28,12 @@ pub record IsResolution (spec : Spec) : Type 0 where
 -- Over a program that keeps to the sandbox the events of a query are so: no call of one that may be asked reaches outside.
 abbrev pub KeptProgramsResolve : Type 0
 KeptProgramsResolve = (cs : List Clause) (s : Settings) → KeepsSandbox cs → IsResolution (spec_of cs s)
+
+-- A turn starts as it is to be, over a program that keeps to the sandbox: the query that runs has an event to come, those before came within its steps, none of those to come does, and it reaches nothing outside.
+abbrev pub TurnsStartWell : Type 0
+TurnsStartWell =
+    (cs : List Clause) (s : Settings) → KeepsSandbox cs → (budget : ℕ) (es : List Entry) → IsLegal (spec_of cs s) budget es made →
+    (q : Query) → (after (spec_of cs s) es made).state ≡ Running q → IsAhead cs s q (after (spec_of cs s) es made).steps (after (spec_of cs s) es made).events
 
 -- nothing runs
 abbrev pub IsStill : State → Type 0

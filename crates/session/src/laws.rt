@@ -1,5 +1,5 @@
 // Laws that hold of every pengine over resolution.
-ghost use Rattle.session.specs.Laws.{KeptProgramsResolve, ScheduleDoesntMatter, NoMoreWait, LostTurnsAreOlder};
+ghost use Rattle.session.specs.Laws.{KeptProgramsResolve, TurnsStartWell, ScheduleDoesntMatter, NoMoreWait, LostTurnsAreOlder};
 
 /// The schedule doesn't matter: for every list of entries that a pengine can have, its events begin the list that resolution defines for its requests, with each abort, destroy and want of memory striking at one step. Where nothing runs and no request waits they are all of that list.
 pub fn schedule_doesnt_matter()
@@ -19,4 +19,9 @@ pub fn lost_turns_are_older()
 /// Over a program that keeps to the sandbox the events of a query are those that resolution gives, and no call of a goal that may be asked reaches outside. So the schedule doesn't matter for its pengines.
 pub fn kept_programs_resolve()
     ensures { KeptProgramsResolve }
+{}
+
+/// Over a program that keeps to the sandbox a turn starts as it is to be: the query that runs has an event to come, those before came within its steps, and it reaches nothing outside.
+pub fn turns_start_well()
+    ensures { TurnsStartWell }
 {}

@@ -1,7 +1,7 @@
 ghost use Rattle.std.specs.Prelude.{IfOk};
 ghost use Rattle.program.specs.Source.{AreNumbered};
 
-use crate::{Pulled, SendFault, Session, Took};
+use crate::{Given, Pulled, SendFault, Session, Took};
 use event_core::{Ask, Event, Request, Spec};
 use program::Program;
 use std::alloc::Global;
@@ -74,15 +74,35 @@ fn an_abort_ends_the_query(rt: HostRuntime) -> Result<(), Fail> {
             .is_ok()
     );
     assert!(rt; session.ready());
-    let Took::Turn(turn) = session.take() else {
+    let Took::Turn(mut turn) = session.take() else {
         return Err(Fail::from(Memory));
     };
     assert!(rt; turn.query() == 1);
     assert!(rt; matches!(session.take(), Took::Out));
+    let made = turn.go(10_000);
+    assert!(rt; made.steps == 2 && made.events == 1);
+    assert!(rt; turn.counts() == (2, 1, false));
     session.abort();
+    assert!(rt; session.give(turn) == Given::Dropped);
     assert!(rt; matches!(session.pull(), Pulled::Event(1, Event::Abort)));
     assert!(rt; is_pending(&mut session));
     assert!(rt; !session.ended());
+    assert!(rt;
+        session
+            .send(ask(alloc, of_p(alloc, Term::var(alloc, 0)?)?)?)
+            .is_ok()
+    );
+    let Took::Turn(mut turn) = session.take() else {
+        return Err(Fail::from(Memory));
+    };
+    let _ = turn.go(10_000);
+    assert!(rt; session.give(turn) == Given::Kept);
+    let Pulled::Event(2, Event::Success { answers, more }) = session.pull() else {
+        return Err(Fail::from(Memory));
+    };
+    assert!(rt; more && answers.len() == 1);
+    let a = of_p(alloc, Term::atom(alloc, "a")?)?;
+    assert!(rt; answers.as_slice().first() == Some(&a));
     Ok(())
 }
 

@@ -45,7 +45,7 @@ kept_at : (c : goal.Joined-drop) (room further : ℕ) → c.args.self.now.state 
 kept_at c room further is g e =
     elim c.match-gone.branch [
       | in-Some w ↦
-          kept_by c.args.self.now c.turn.inside room further (present_at c room further is) c.turn.invariant (view_of c.settle-2.new.self) w.in-Some.gone w.in-Some.is (view_of w.keep.new.self) w.keep.ensures.turns
+          kept_by c.args.self.now c.turn.inside room further (present_at c room further is) c.turn.invariant.gone (view_of c.settle-2.new.self) w.in-Some.gone w.in-Some.is (view_of w.keep.new.self) w.keep.ensures.turns
           (subst (λ (z : Automaton). Settles (view_of z) (view_of c.settle-2.new.self)) w.self-is c.settle-2.ensures.does) g e
       | in_default-gone w ↦ absurd (none_gone c.turn.inside.gone g w.in_default-gone.is e)
     ]

@@ -1,0 +1,8 @@
+/// What a turn made.
+#[derive(Clone, Copy, Debug, Drop, PartialEq, Eq)]
+pub struct Made {
+    /// At most its budget.
+    pub steps: u64,
+    /// How many events, `memory` among them; at most 64. Not both numbers are 0.
+    pub events: u64,
+}
