@@ -9,3 +9,6 @@ mod rows;
 pub use outcome::call;
 pub use rows::is_row;
 pub use tree_offers::{Offers, Outcome};
+
+#[cfg(test)]
+mod tests;

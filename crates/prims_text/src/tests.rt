@@ -1,0 +1,61 @@
+ghost use Rattle.std.specs.List.{All};
+ghost use Rattle.store.specs.Cells.{IsCell};
+
+use crate::{Outcome, call, is_row};
+use std::alloc::Global;
+use std::test::Fail;
+use store::{Cell, Offer, Seen, Store};
+use term_core::{Name, Pi};
+
+// The atoms that `ab` is joined of, by the length of the first.
+static SPLITS: [(&str, &str); 3] = [("", "ab"), ("a", "b"), ("ab", "")];
+
+fn is_atom(store: &Store, c: Cell, text: &str) -> bool
+    requires { IsCell store.now c }
+{
+    match store.look(c) {
+        Seen::Atom(name) => name.as_str() == text,
+        Seen::Var(_) | Seen::Int(_) | Seen::Comp(_, _) => false,
+    }
+}
+
+// Whether a result gives these atoms to the first two arguments.
+fn is_split(store: &Store, offer: &Offer, first: &str, second: &str) -> bool
+    requires { All (λ p. IsCell store.now p.1) offer.now.pairs }
+{
+    match offer.pairs.as_slice() {
+        [(0, left), (1, right)] => is_atom(store, *left, first) && is_atom(store, *right, second),
+        _ => false,
+    }
+}
+
+// Whether `atom_concat(X,Y,ab)` gives the splits, in their order, and nothing after them.
+fn splits_come_in_order(alloc: Global) -> Result<bool, Fail> {
+    let mut store = Store::new(alloc);
+    let args = [store.new_var()?, store.new_var()?, store.atom("ab")?];
+    let pi = Pi {
+        name: Name::new(alloc, "atom_concat")?,
+        arity: 3,
+    };
+    if !is_row(&pi) {
+        return Ok(false);
+    }
+    let Outcome::Offers(mut offers) = call(alloc, &mut store, &pi, &args)? else {
+        return Ok(false);
+    };
+    for (first, second) in &SPLITS {
+        let Some(offer) = offers.next(&mut store)? else {
+            return Ok(false);
+        };
+        if !is_split(&store, &offer, first, second) {
+            return Ok(false);
+        }
+    }
+    Ok(offers.next(&mut store)?.is_none())
+}
+
+#[test]
+fn atoms_are_split(rt: HostRuntime) -> Result<(), Fail> {
+    assert!(rt; splits_come_in_order(rt.alloc())?);
+    Ok(())
+}
