@@ -42,10 +42,13 @@ fn sorted(alloc: Global, name: &str, list: &Term) -> Result<Term, Fail> {
     let Some(offer) = offers.next(&mut store)? else {
         return Err(Fail::from("no result"));
     };
-    let [(1, cell)] = offer.pairs.as_slice() else {
-        return Err(Fail::from("another argument"));
+    let [pair] = offer.pairs.as_slice() else {
+        return Err(Fail::from("not one pair"));
     };
-    let Taken::Term(term) = store.take(*cell, 100)? else {
+    if pair.0 != 1 {
+        return Err(Fail::from("another argument"));
+    }
+    let Taken::Term(term) = store.take(pair.1, 100)? else {
         return Err(Fail::from("too long"));
     };
     match offers.next(&mut store)? {

@@ -23,10 +23,10 @@ fn is_atom(store: &Store, c: Cell, text: &str) -> bool
 fn is_split(store: &Store, offer: &Offer, first: &str, second: &str) -> bool
     requires { All (λ p. IsCell store.now p.1) offer.now.pairs }
 {
-    match offer.pairs.as_slice() {
-        [(0, left), (1, right)] => is_atom(store, *left, first) && is_atom(store, *right, second),
-        _ => false,
-    }
+    let [left, right] = offer.pairs.as_slice() else {
+        return false;
+    };
+    left.0 == 0 && is_atom(store, left.1, first) && right.0 == 1 && is_atom(store, right.1, second)
 }
 
 // Whether `atom_concat(X,Y,ab)` gives the splits, in their order, and nothing after them.
