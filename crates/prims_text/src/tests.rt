@@ -1,11 +1,11 @@
 ghost use Rattle.std.specs.List.{All};
 ghost use Rattle.store.specs.Cells.{IsCell};
 
-use crate::{Outcome, call, is_row};
+use crate::{Offers, Outcome, call, is_row};
 use std::alloc::Global;
 use std::test::Fail;
 use store::{Cell, Offer, Seen, Store};
-use term_core::{Name, Pi};
+use term_core::{Memory, Name, Pi};
 
 // The atoms that `ab` is joined of, by the length of the first.
 static SPLITS: [(&str, &str); 3] = [("", "ab"), ("a", "b"), ("ab", "")];
@@ -29,6 +29,19 @@ fn is_split(store: &Store, offer: &Offer, first: &str, second: &str) -> bool
     left.0 == 0 && is_atom(store, left.1, first) && right.0 == 1 && is_atom(store, right.1, second)
 }
 
+// Whether a result is left, and the next one gives these atoms.
+fn next_is_split(
+    store: &mut Store,
+    offers: &mut Offers,
+    first: &str,
+    second: &str,
+) -> Result<bool, Memory> {
+    let Some(offer) = offers.next(store)? else {
+        return Ok(false);
+    };
+    Ok(is_split(store, &offer, first, second))
+}
+
 // Whether `atom_concat(X,Y,ab)` gives the splits, in their order, and nothing after them.
 fn splits_come_in_order(alloc: Global) -> Result<bool, Fail> {
     let mut store = Store::new(alloc);
@@ -44,10 +57,7 @@ fn splits_come_in_order(alloc: Global) -> Result<bool, Fail> {
         return Ok(false);
     };
     for (first, second) in &SPLITS {
-        let Some(offer) = offers.next(&mut store)? else {
-            return Ok(false);
-        };
-        if !is_split(&store, &offer, first, second) {
+        if !next_is_split(&mut store, &mut offers, first, second)? {
             return Ok(false);
         }
     }
