@@ -6,6 +6,3 @@ mod value;
 
 pub use machine::{MAX_VISITED, eval};
 pub use value::Value;
-
-#[cfg(test)]
-mod tests;

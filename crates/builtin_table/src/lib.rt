@@ -19,6 +19,3 @@ pub use outside::reaches_outside;
 pub use row::{Class, Row};
 pub use spelling::Spelling;
 pub use table::Table;
-
-#[cfg(test)]
-mod tests;

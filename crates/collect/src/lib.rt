@@ -7,6 +7,3 @@ mod numbers;
 
 pub use bag::{Bag, BagKind};
 pub use tree_offers::Offers;
-
-#[cfg(test)]
-mod tests;

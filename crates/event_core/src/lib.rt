@@ -39,6 +39,3 @@ pub use settings::Settings;
 pub use spec::{Id, Spec};
 pub use stop::Stop;
 pub use text::fits;
-
-#[cfg(test)]
-mod tests;

@@ -6,6 +6,3 @@ mod text;
 
 pub use library::Library;
 pub use text::source;
-
-#[cfg(test)]
-mod tests;

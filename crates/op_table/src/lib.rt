@@ -8,6 +8,3 @@ mod ops;
 pub use iso::{iso_infix, iso_prefix};
 pub use op::{Op, OpFault, OpKind};
 pub use ops::Ops;
-
-#[cfg(test)]
-mod tests;

@@ -18,6 +18,3 @@ pub use mem_source::MemSource;
 pub use sink::{Sink, Wrote};
 pub use source::{ReadGot, Source};
 pub use standard::{StdSink, StdSource};
-
-#[cfg(test)]
-mod tests;

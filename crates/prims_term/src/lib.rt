@@ -17,6 +17,3 @@ mod univ;
 
 pub use outcome::{Offers, Outcome, call};
 pub use rows::is_row;
-
-#[cfg(test)]
-mod tests;

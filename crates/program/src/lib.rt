@@ -17,6 +17,3 @@ pub use clause::Clause;
 pub use fault::ProgFault;
 pub use laws::client_replaces_library;
 pub use program::Program;
-
-#[cfg(test)]
-mod tests;

@@ -13,6 +13,3 @@ mod values;
 pub use lexer::tokens;
 pub use token::{LexFault, Token, TokenKind, TokenValue};
 pub use values::value;
-
-#[cfg(test)]
-mod tests;

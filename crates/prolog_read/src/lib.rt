@@ -9,6 +9,3 @@ mod variables;
 
 pub use fault::ReadFault;
 pub use read::{read_clauses, read_term};
-
-#[cfg(test)]
-mod tests;

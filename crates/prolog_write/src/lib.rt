@@ -18,6 +18,3 @@ pub use form::Form;
 pub use mode::{Mode, WriteStop};
 pub use place::Place;
 pub use write::{argument_text, text};
-
-#[cfg(test)]
-mod tests;

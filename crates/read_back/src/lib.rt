@@ -11,6 +11,3 @@ mod sound;
 
 pub use laws::what_is_written_is_read_again;
 pub use sound::term_is_sound;
-
-#[cfg(test)]
-mod tests;

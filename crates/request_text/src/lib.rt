@@ -20,6 +20,3 @@ pub use script::{Script, read_script};
 pub use sent::Sent;
 pub use spec::{Options, program_in, read_spec};
 pub use written::request_bytes;
-
-#[cfg(test)]
-mod tests;

@@ -24,6 +24,3 @@ pub use laws::{
 pub use positions::goals_are_bodies;
 pub use unsafe_goal::Unsafe;
 pub use verdict::{Passed, check};
-
-#[cfg(test)]
-mod tests;

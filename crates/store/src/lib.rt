@@ -14,6 +14,3 @@ pub use cell::Cell;
 pub use cells::Store;
 pub use seen::{Offer, Seen, Taken};
 pub use word::MAX_CELLS;
-
-#[cfg(test)]
-mod tests;

@@ -1,0 +1,5 @@
+use Rattle.program.specs.Source.{AreNumbered}
+use Rattle.resolution_tests.proofs.sandbox.text.Given as goal
+
+abbrev pub invariant-loop-words : goal.invariant-loop-words
+invariant-loop-words l = AreNumbered l.read.items

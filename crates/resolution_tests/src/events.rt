@@ -1,0 +1,96 @@
+// Each public call once. The program has no clauses.
+use event_core::{
+    Ask, Event, Fit, MAX_DEPTH, Pengine, Request, Rest, Settings, all_events, fit_of, fits, line,
+    reach, refusal,
+};
+use program::Program;
+use std::alloc::Global;
+use std::sync::Arc;
+use std::test::Fail;
+use term_core::{Memory, Term};
+
+fn program(alloc: Global) -> Result<Arc<Program>, Memory> {
+    match Program::from_terms(alloc, Vec::new(alloc), &[], &[]) {
+        Ok(program) => Ok(Arc::new(alloc, program)?),
+        Err(_) => Err(Memory),
+    }
+}
+
+fn ask(alloc: Global, goal: &str) -> Result<Ask, Memory> {
+    Ok(Ask {
+        goal: Term::atom(alloc, goal)?,
+        template: Term::atom(alloc, "t")?,
+        chunk: 0,
+        bytes: 0,
+    })
+}
+
+fn lines(alloc: Global, settings: Settings) -> Result<Vec<u8>, Memory> {
+    let requests = vec![in alloc;
+        Request::Next(None),
+        Request::Ask(ask(alloc, "halt")?),
+        Request::Ask(ask(alloc, "true")?),
+        Request::Stop,
+    ]?;
+    let mut lines = Vec::new(alloc);
+    for event in all_events(alloc, program(alloc)?, settings, requests)?.as_slice() {
+        let text = line(alloc, event)?;
+        lines.extend_from_slice(&text)?;
+        lines.push(b' ')?;
+    }
+    Ok(lines)
+}
+
+#[test]
+fn transcripts(rt: HostRuntime) -> Result<(), Fail> {
+    let kept = Settings {
+        destroys: false,
+        ..Settings::DEFAULT
+    };
+    let cases: [(Settings, &str); 2] = [
+        (
+            kept,
+            "create error(protocol_error(next)) error(error(permission_error(call,sandboxed,halt/0),none)) success([t],false) error(protocol_error(stop)) ",
+        ),
+        (
+            Settings::DEFAULT,
+            "create error(protocol_error(next)) error(error(permission_error(call,sandboxed,halt/0),none)) destroy ",
+        ),
+    ];
+    for (settings, expected) in cases {
+        let lines = lines(rt.alloc(), settings)?;
+        assert_eq!(rt; lines.as_slice(), expected.as_bytes());
+    }
+    Ok(())
+}
+
+#[test]
+fn calls(rt: HostRuntime) -> Result<(), Fail> {
+    let alloc = rt.alloc();
+    let program = program(alloc)?;
+    assert!(rt; refusal(alloc, &program, &ask(alloc, "halt")?)?.is_some());
+    assert!(rt; refusal(alloc, &program, &ask(alloc, "true")?)?.is_none());
+    let failing = ask(alloc, "fail")?;
+    let whole = reach(alloc, &program, Settings::DEFAULT, &failing, &[], 1)?;
+    assert_eq!(rt; whole.events.len(), 1);
+    assert!(rt; matches!(whole.rest, Some(Rest::Over)));
+    let cut = reach(alloc, &program, Settings::DEFAULT, &failing, &[], 0)?;
+    assert_eq!(rt; cut.events.len(), 0);
+    assert!(rt; cut.rest.is_none());
+    assert!(rt; matches!(fit_of(Rest::More, &Request::Stop), Fit::Stops));
+    let mut pengine = Pengine::new(program, Settings::DEFAULT);
+    assert_eq!(rt; pengine.abort(alloc)?.len(), 0);
+    let events = pengine.request(alloc, Request::Ask(ask(alloc, "fail")?))?;
+    assert_eq!(rt; events.len(), 2);
+    assert!(rt; matches!(events.as_slice()[0], Event::Failure));
+    assert!(rt; pengine.ended());
+    assert_eq!(rt; pengine.destroy(alloc)?.len(), 0);
+    let mut term = Term::atom(alloc, "a")?;
+    for _ in 0..MAX_DEPTH {
+        term = Term::comp(alloc, "f", &[term])?;
+    }
+    assert!(rt; fits(alloc, &term)?);
+    let deeper = Term::comp(alloc, "f", &[term])?;
+    assert!(rt; !fits(alloc, &deeper)?);
+    Ok(())
+}

@@ -1,0 +1,7 @@
+//! Tests of the sandbox, of events and of one pengine.
+#![tactic(auto)]
+
+#[cfg(test)]
+mod events;
+#[cfg(test)]
+mod sandbox;
