@@ -1,5 +1,5 @@
-use lib_text::{Library, source};
 use builtin_table::Table;
+use lib_text::{Library, source};
 use program::Program;
 use prolog_read::read_clauses;
 use std::test::Fail;

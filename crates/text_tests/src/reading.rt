@@ -1,5 +1,5 @@
-use prolog_read::{read_clauses, read_term};
 use op_table::Ops;
+use prolog_read::{read_clauses, read_term};
 use std::alloc::{AllocError, Global};
 use std::test::Fail;
 use term_core::{Node, ReadTerm};

@@ -1,10 +1,10 @@
+use event_core::{Request, Spec};
+use lib_text::Library;
+use program::ProgFault;
 use request_text::{
     Options, RequestFault, ScriptFault, Sent, SpecFault, place_of, read_request, read_script,
     read_spec, request_bytes,
 };
-use event_core::{Request, Spec};
-use lib_text::Library;
-use program::ProgFault;
 use std::alloc::Global;
 use std::test::Fail;
 use term_core::{Memory, Name, Pi, Text};

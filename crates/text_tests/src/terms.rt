@@ -1,6 +1,6 @@
-use term_core::{Bytes, List, MAX_NODES, Memory, Name, Pi, Subst, Term, Text, unify};
 use std::alloc::Global;
 use std::test::Fail;
+use term_core::{Bytes, List, MAX_NODES, Memory, Name, Pi, Subst, Term, Text, unify};
 
 // A part of a term in preorder, where each compound has two arguments.
 #[derive(Clone, Copy, Drop)]
