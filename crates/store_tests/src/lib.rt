@@ -8,4 +8,8 @@ mod cells;
 #[cfg(test)]
 mod collecting;
 #[cfg(test)]
-mod term_primitives;
+mod primitives;
+#[cfg(test)]
+mod results;
+#[cfg(test)]
+mod words;
