@@ -8,6 +8,8 @@ mod cells;
 #[cfg(test)]
 mod collecting;
 #[cfg(test)]
+mod offers;
+#[cfg(test)]
 mod primitives;
 #[cfg(test)]
 mod results;
