@@ -1,9 +1,9 @@
 ghost use Rattle.std.specs.Prelude.{IfOk};
 ghost use Rattle.store.specs.Cells.{IsCell};
 
-use store::{Cell, Offer, Seen, Store, Taken};
 use std::alloc::Global;
 use std::test::Fail;
+use store::{Cell, Offer, Seen, Store, Taken};
 use term_core::{List, Memory, Name, Node, Term};
 
 // f(X, [-2^127|Y], X, a), whose integer fits no word, by the variables' numbers.

@@ -8,4 +8,10 @@ mod cells;
 #[cfg(test)]
 mod collecting;
 #[cfg(test)]
-mod term_primitives;
+mod offers;
+#[cfg(test)]
+mod primitives;
+#[cfg(test)]
+mod results;
+#[cfg(test)]
+mod words;
