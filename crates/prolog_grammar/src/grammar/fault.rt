@@ -1,4 +1,3 @@
-use std::alloc::{AllocError, AllocFailed};
 use term_core::Memory;
 
 /// Why the tokens of a term aren't read. A place is a number of bytes from the start of the text.
@@ -22,18 +21,6 @@ impl From<Memory> for Fault {
     ghost from_gives = { λ _ result. result ≡ Starved };
 
     fn from(_refused: Memory) -> Fault {
-        Fault::Memory
-    }
-}
-
-impl From<AllocError> for Fault {
-    fn from(_refused: AllocError) -> Fault {
-        Fault::Memory
-    }
-}
-
-impl<T: Drop> From<AllocFailed<T>> for Fault {
-    fn from(_refused: AllocFailed<T>) -> Fault {
         Fault::Memory
     }
 }
