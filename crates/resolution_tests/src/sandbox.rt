@@ -1,9 +1,9 @@
 ghost use Rattle.std.specs.Prelude.{IfOk};
 ghost use Rattle.program.specs.Source.{AreNumbered};
 
-use sandbox_walk::{Unsafe, check};
 use builtin_table::Table;
 use program::Program;
+use sandbox_walk::{Unsafe, check};
 use std::alloc::Global;
 use std::sync::Arc;
 use std::test::Fail;
