@@ -48,11 +48,18 @@ fn transcripts(rt: HostRuntime) -> Result<(), Fail> {
 }
 
 #[test]
-fn calls(rt: HostRuntime) -> Result<(), Fail> {
+fn asks_are_refused(rt: HostRuntime) -> Result<(), Fail> {
     let alloc = rt.alloc();
     let program = program(alloc, "")?;
     assert!(rt; refusal(alloc, &program, &ask(alloc, "halt", "t")?)?.is_some());
     assert!(rt; refusal(alloc, &program, &ask(alloc, "true", "t")?)?.is_none());
+    Ok(())
+}
+
+#[test]
+fn steps_reach_events(rt: HostRuntime) -> Result<(), Fail> {
+    let alloc = rt.alloc();
+    let program = program(alloc, "")?;
     let failing = ask(alloc, "fail", "t")?;
     let whole = reach(alloc, &program, Settings::DEFAULT, &failing, &[], 1)?;
     assert_eq!(rt; whole.events.len(), 1);
@@ -60,14 +67,31 @@ fn calls(rt: HostRuntime) -> Result<(), Fail> {
     let cut = reach(alloc, &program, Settings::DEFAULT, &failing, &[], 0)?;
     assert_eq!(rt; cut.events.len(), 0);
     assert!(rt; cut.rest.is_none());
-    assert!(rt; matches!(fit_of(Rest::More, &Request::Stop), Fit::Stops));
-    let mut pengine = Pengine::new(program, Settings::DEFAULT);
+    Ok(())
+}
+
+#[test]
+fn a_failure_ends_a_pengine(rt: HostRuntime) -> Result<(), Fail> {
+    let alloc = rt.alloc();
+    let mut pengine = Pengine::new(program(alloc, "")?, Settings::DEFAULT);
     assert_eq!(rt; pengine.abort(alloc)?.len(), 0);
     let events = pengine.request(alloc, Request::Ask(ask(alloc, "fail", "t")?))?;
     assert_eq!(rt; events.len(), 2);
-    assert!(rt; matches!(events.as_slice()[0], Event::Failure));
+    assert!(rt; matches!(events.as_slice().first(), Some(Event::Failure)));
     assert!(rt; pengine.ended());
     assert_eq!(rt; pengine.destroy(alloc)?.len(), 0);
+    Ok(())
+}
+
+#[test]
+fn a_stop_fits_where_answers_are_left(rt: HostRuntime) -> Result<(), Fail> {
+    assert!(rt; matches!(fit_of(Rest::More, &Request::Stop), Fit::Stops));
+    Ok(())
+}
+
+#[test]
+fn terms_fit_to_a_depth(rt: HostRuntime) -> Result<(), Fail> {
+    let alloc = rt.alloc();
     let mut term = Term::atom(alloc, "a")?;
     for _ in 0..MAX_DEPTH {
         term = Term::comp(alloc, "f", &[term])?;

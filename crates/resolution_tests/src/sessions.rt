@@ -117,26 +117,54 @@ fn turned(session: &mut Session) -> Option<(Made, Given)>
     Some((made, session.give(turn)))
 }
 
+// What a turn of `p(X)` makes over the facts: the first answer.
+const FIRST: Made = Made {
+    steps: 2,
+    events: 1,
+};
+
+fn drops_a_turn_in_vain(alloc: Global, session: &mut Session) -> Result<bool, Memory>
+    requires { IsLive session.old }
+    ensures { IsLive session.new }
+{
+    if !asked(alloc, session, "_0 p/1")? {
+        return Ok(false);
+    }
+    Ok(turned_in_vain(session) == Some((FIRST, Given::Dropped)))
+}
+
+fn tells_of_the_abort(session: &mut Session) -> bool
+    requires { IsLive session.old }
+    ensures { IsLive session.new }
+{
+    let first = pulled(session);
+    let second = pulled(session);
+    matches!(first, Pulled::Event(1, Event::Abort)) && matches!(second, Pulled::Pending)
+}
+
+fn gives_the_first_answer(alloc: Global, session: &mut Session) -> Result<bool, Memory>
+    requires { IsLive session.old }
+{
+    if !asked(alloc, session, "_0 p/1")? {
+        return Ok(false);
+    }
+    if turned(session) != Some((FIRST, Given::Kept)) {
+        return Ok(false);
+    }
+    let Pulled::Event(2, Event::Success { answers, more }) = session.pull() else {
+        return Ok(false);
+    };
+    let answer = term(alloc, "a p/1")?;
+    Ok(more && answers.len() == 1 && answers.as_slice().first() == Some(&answer))
+}
+
 #[test]
 fn turns_are_dropped_and_kept(rt: HostRuntime) -> Result<(), Fail> {
     let alloc = rt.alloc();
     let mut session = created(alloc, FACTS, false)?;
-    assert!(rt; asked(alloc, &mut session, "_0 p/1")?);
-    let made = Made {
-        steps: 2,
-        events: 1,
-    };
-    assert_eq!(rt; turned_in_vain(&mut session), Some((made, Given::Dropped)));
-    assert!(rt; matches!(pulled(&mut session), Pulled::Event(1, Event::Abort)));
-    assert!(rt; matches!(pulled(&mut session), Pulled::Pending));
-    assert!(rt; asked(alloc, &mut session, "_0 p/1")?);
-    assert_eq!(rt; turned(&mut session), Some((made, Given::Kept)));
-    let Pulled::Event(2, Event::Success { answers, more }) = session.pull() else {
-        return Err(Fail::from(Memory));
-    };
-    assert!(rt; more && answers.len() == 1);
-    let answer = term(alloc, "a p/1")?;
-    assert!(rt; answers.as_slice().first() == Some(&answer));
+    assert!(rt; drops_a_turn_in_vain(alloc, &mut session)?);
+    assert!(rt; tells_of_the_abort(&mut session));
+    assert!(rt; gives_the_first_answer(alloc, &mut session)?);
     Ok(())
 }
 
