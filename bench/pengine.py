@@ -15,7 +15,7 @@ from build import built
 
 LIBRARIES = [
     "term_core", "op_table", "prolog_lex", "prolog_grammar", "prolog_read", "prolog_write", "program", "builtin_table",
-    "prims_tree", "solve_model", "sandbox_walk", "event_core", "session",
+    "prims_tree", "solve_model", "sandbox_walk", "event_core", "session", "lib_text", "read_back", "request_text",
 ]
 
 ROWS = [("cycles", 100_000, 200_000), ("idle", 10_000, 100_000)]
@@ -41,7 +41,7 @@ def least(program, kind, count):
 
 def main():
     with tempfile.TemporaryDirectory() as folder:
-        program = built(folder, "pengine", LIBRARIES, "session event_core program prolog_read term_core", b"cycles 1")
+        program = built(folder, "pengine", LIBRARIES, "session event_core program lib_text request_text term_core", b"cycles 1")
         for kind, few, many in ROWS:
             less, more = least(program, kind, few), least(program, kind, many)
             took, grew = ((after - before) / (many - few) for before, after in zip(less, more))
