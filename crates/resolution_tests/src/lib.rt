@@ -5,3 +5,7 @@
 mod events;
 #[cfg(test)]
 mod sandbox;
+#[cfg(test)]
+mod sessions;
+#[cfg(test)]
+mod words;
