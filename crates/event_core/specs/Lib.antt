@@ -14,3 +14,4 @@ pub mod Standing
 pub mod Stops
 pub mod Summaries
 pub mod Texts
+pub mod Waits

@@ -1,4 +1,4 @@
--- What kind a request is of, which requests fit, and which chunk holds after them.
+-- What kind a request is of, which requests fit, and which chunk holds after them (Lager and Wielemaker, TPLP 2014, section 3).
 use Rattle.std.specs.Prelude.{ℕ, Bool, true, false, Some}
 use Rattle.event_core.specs.declared.event.Kind.{Kind}
 use Rattle.event_core.specs.declared.event.Kind.TheVariants as kind

@@ -1,4 +1,4 @@
--- The stops of a query: what its trace has to tell, in order.
+-- The stops of a query: what its trace has to tell, in order (Lager and Wielemaker, TPLP 2014, section 3).
 use Rattle.std.specs.Prelude.{ℕ, Bool, true, false, List, [], ◌∷◌, Option, Some, None, codes}
 use Rattle.term_core.specs.Tree.{Tree}
 use Rattle.term_core.specs.Variables.{numbered}

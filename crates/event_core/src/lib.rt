@@ -7,6 +7,7 @@ mod fit;
 mod full;
 mod laws;
 mod limits;
+mod made;
 mod pengine;
 mod piece;
 mod print;
@@ -20,6 +21,7 @@ mod spec;
 mod stop;
 mod stops;
 mod text;
+mod waiting;
 
 pub use event::{Event, Kind};
 pub use fit::{Fit, fit_of};
@@ -29,6 +31,7 @@ pub use laws::{
     requests_only_add, steps_never_fall, steps_only_add,
 };
 pub use limits::{CHUNK_BYTES, DEFAULT_LIMIT, MAX_DEPTH, MAX_LIMIT, MAX_TEXT};
+pub use made::Made;
 pub use pengine::Pengine;
 pub use print::line;
 pub use reached::{Reached, reach};
@@ -39,3 +42,4 @@ pub use settings::Settings;
 pub use spec::{Id, Spec};
 pub use stop::Stop;
 pub use text::fits;
+pub use waiting::Waiting;

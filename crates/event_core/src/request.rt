@@ -9,7 +9,8 @@ use term_core::Term;
 pub struct Ask {
     pub goal: Term,
     pub template: Term,
-    /// How many answers an event holds, from 1 to 1,000; 0 stands for the pengine's own number.
+    /// How many answers an event holds, from 1 to 1,000; 0 stands for the pengine's own number. It holds fewer where their
+    /// texts have [`CHUNK_BYTES`](crate::CHUNK_BYTES) together.
     pub chunk: u32,
     /// The bytes of the texts from which goal and template were read.
     pub bytes: u64,

@@ -3,7 +3,8 @@ use crate::limits::DEFAULT_LIMIT;
 /// What a pengine is made with.
 #[derive(Clone, Copy, Debug, Drop, PartialEq, Eq)]
 pub struct Settings {
-    /// How many answers an event holds where an ask names no number; from 1 to 1,000.
+    /// How many answers an event holds where an ask names no number; from 1 to 1,000. It holds fewer where their texts have
+    /// [`CHUNK_BYTES`](crate::CHUNK_BYTES) together.
     pub chunk: u32,
     /// How many steps each query may make; from 1 to `MAX_LIMIT`.
     pub limit: u64,

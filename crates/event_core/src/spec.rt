@@ -9,7 +9,8 @@ pub struct Spec {
     pub program: Arc<Program>,
     /// The first query, where there is one.
     pub ask: Option<Ask>,
-    /// How many answers an event holds where an ask names no number; from 1 to 1,000.
+    /// How many answers an event holds where an ask names no number; from 1 to 1,000. It holds fewer where their texts have
+    /// [`CHUNK_BYTES`](crate::CHUNK_BYTES) together.
     pub chunk: u32,
     /// How many steps each query may make; from 1 to `MAX_LIMIT`.
     pub limit: u64,

@@ -1,5 +1,5 @@
 ghost use Rattle.std.specs.Prelude.{◌≡◌};
-ghost use Rattle.lib_text.specs.declared.text.TheConstants.{SOURCE};
+ghost use Rattle.lib_text.specs.Text.{library_text};
 
 /// The library's source text.
 const SOURCE: &str = "append([], L, L).
@@ -75,8 +75,9 @@ length(L, N) :- ( var(N) -> true ; '$int'(N) ), '$skip_list'(L, K, T), '$length'
 
 /// The source text of the library: predicates on lists (with `maplist/2` to `maplist/5`, `foldl/4`, `include/3` and `exclude/3`)
 /// and on integers. Predicates whose names begin with `$` are the library's own.
+#[tactic(auto, unfolding(crate::specs::Text::library_lines))]
 pub fn source() -> &'static str
-    ensures { result.now ≡ SOURCE.now }
+    ensures { result.now ≡ library_text }
 {
     SOURCE
 }

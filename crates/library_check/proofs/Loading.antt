@@ -93,17 +93,3 @@ sound library ts k f =
       keeps = keeps;
       inside = λ g v. safe_stay_inside (program_of library (clauses_in true ts)) g keeps (sym ((is_one standard (program_of library (clauses_in true ts)) g).only None v));
     }
-
--- a library alone, to which a client adds nothing
-pub alone : (cs : List Clause) → program_of cs (clauses_in true []) ≡ cs
-unfolding program_of
-alone cs = append-nil (filter (λ (c : Clause). not (defines [] c.head)) cs) ∙ all cs
-  where
-    all : (ds : List Clause) → filter (λ (c : Clause). not (defines [] c.head)) ds ≡ ds
-    all [] = refl
-    all (c ∷ ds) = by (indicator_of c.head) (all ds)
-      where
-        by : (i : Option Pi) → filter (λ (d : Clause). not (defines [] d.head)) ds ≡ ds →
-            (if not (elim i as (λ x. Bool) [ None ↦ false | Some pi ↦ false ]) then c ∷ filter (λ (d : Clause). not (defines [] d.head)) ds else filter (λ (d : Clause). not (defines [] d.head)) ds) ≡ c ∷ ds
-        by None e = ap (λ (es : List Clause). c ∷ es) e
-        by (Some pi) e = ap (λ (es : List Clause). c ∷ es) e

@@ -1,5 +1,4 @@
-ghost use Rattle.std.specs.Prelude.{◌≡◌, false, IfOk};
-ghost use Rattle.program.specs.Source.{AreNumbered, clauses_in, trees_read};
+ghost use Rattle.std.specs.Prelude.{◌≡◌, IfOk};
 ghost use Rattle.sandbox_walk.specs.Keeping.{keeps_sandbox as keeps_sandbox_of};
 ghost use Rattle.lib_text.specs.Clauses.{library_clauses};
 
@@ -10,7 +9,7 @@ use builtin_table::Table;
 use lib_text::Library;
 use program::Program;
 use std::alloc::Global;
-use term_core::{Memory, ReadTerm};
+use term_core::Memory;
 
 /// Whether a program keeps to the sandbox, by the built-in predicates of this Prolog:
 /// - no clause is of a reserved predicate, and none of the client's is of one whose name begins with `$`;
@@ -40,18 +39,6 @@ pub fn keeps_sandbox(alloc: Global, program: &Program) -> Result<bool, Memory>
 pub fn library_keeps_sandbox(alloc: Global) -> Result<bool, Memory>
     ensures { IfOk result (λ b. b ≡ keeps_sandbox_of library_clauses) }
 {
-    let library = Library::read(alloc)?;
-    let program = alone(alloc, library.terms())?;
+    let program = Library::read(alloc)?.alone(alloc)?;
     keeps_sandbox(alloc, &program)
-}
-
-// The program of a library to which no client adds anything.
-fn alone(alloc: Global, library: &[ReadTerm]) -> Result<Program, Memory>
-    requires { AreNumbered library.now }
-    ensures { IfOk result (λ p. p ≡ clauses_in false (trees_read library.now)) }
-{
-    match Program::from_terms(alloc, Vec::new(alloc), library, &[]) {
-        Ok(program) => Ok(program),
-        Err(_) => Err(Memory),
-    }
 }

@@ -6,6 +6,7 @@ use outside::{MemSink, MemSource, Sink, Wrote};
 use std::alloc::Global;
 use std::process::Abort;
 use std::test::Fail;
+use term_core::Memory;
 
 /// A sink that takes a byte at a time.
 #[derive(Drop)]
@@ -55,7 +56,7 @@ const REFUSED: Case = Case {
     ..DONE
 };
 
-static ANSWERS: [Case; 22] = [
+static ANSWERS: [Case; 23] = [
     DONE,
     Case {
         name: "rules",
@@ -107,7 +108,13 @@ static ANSWERS: [Case; 22] = [
     },
     Case {
         name: "a request after the end",
-        input: b"p(a). p(b). p(c).\n---\nask(p(c))\nnext\ndestroy\n",
+        input: b"p(a). p(b). p(c).\n---\nask(p(c))\nnext\n",
+        written: b"create\nsuccess([p(c)],false)\ndestroy\nended\n",
+        ..DONE
+    },
+    Case {
+        name: "an abort and a destroy after the end",
+        input: b"p(c).\n---\nask(p(c))\nabort\ndestroy\n",
         written: b"create\nsuccess([p(c)],false)\ndestroy\nended\nended\n",
         ..DONE
     },
@@ -393,7 +400,7 @@ static PROMPTS: [Case; 12] = [
     },
 ];
 
-static SOLUTIONS: [Case; 15] = [
+static SOLUTIONS: [Case; 14] = [
     Case {
         name: "all solutions",
         input: b"t(1). t(2).\n---\nask(findall(X,t(X),L))\n",
@@ -401,15 +408,9 @@ static SOLUTIONS: [Case; 15] = [
         ..DONE
     },
     Case {
-        name: "groups of one witness",
-        input: b"p(2,a). p(1,b). p(1,a).\n---\nask(setof(X,p(X,Y),L))\nnext\n",
-        written: b"create\nsuccess([setof(_0,p(_0,a),[1,2])],true)\nsuccess([setof(_0,p(_0,b),[1])],false)\ndestroy\n",
-        ..DONE
-    },
-    Case {
-        name: "a variable that isn't free",
-        input: b"p(2,a). p(1,b). p(1,a).\n---\nask(setof(X,Y^p(X,Y),L))\n",
-        written: b"create\nsuccess([setof(_0,_1^p(_0,_1),[1,2])],false)\ndestroy\n",
+        name: "groups of one witness, and a variable that isn't free",
+        input: b"p(2,a). p(1,b). p(1,a).\n---\ncreate([destroy(false)])\nask(setof(X,p(X,Y),L))\nnext\nask(setof(X,Y^p(X,Y),L))\n",
+        written: b"create\nsuccess([setof(_0,p(_0,a),[1,2])],true)\nsuccess([setof(_0,p(_0,b),[1])],false)\nsuccess([setof(_0,_1^p(_0,_1),[1,2])],false)\n",
         ..DONE
     },
     Case {
@@ -798,6 +799,9 @@ fn no_words_are_refused(rt: HostRuntime) -> Result<(), Fail> {
     let mut err = MemSink::new(alloc, &[])?;
     assert_eq!(rt; run_plain(alloc, &[], &mut src, &mut out, &mut err), 2);
     assert_eq!(rt; src.left(), b"ab".as_slice());
+    assert_eq!(rt; out.taken(), b"".as_slice());
+    let usage = b"usage: pengines session\n       pengines check GOAL\n";
+    assert_eq!(rt; err.taken(), usage.as_slice());
     Ok(())
 }
 
@@ -815,46 +819,59 @@ fn a_long_input_is_refused(rt: HostRuntime) -> Result<(), Fail> {
     Ok(())
 }
 
-#[test]
-fn a_term_too_deep_for_an_event_is_an_error(rt: HostRuntime) -> Result<(), Fail> {
-    let alloc = rt.alloc();
+// Whether a script that ends here is run, or refused with nothing written.
+fn is_answered(alloc: Global, script: &[u8]) -> Result<bool, Memory> {
     let words = vec![in alloc; String::from_str(alloc, "session")?]?;
-    let mut script = b"big(".to_vec(alloc)?;
-    for turn in 0..999 {
-        script.extend_from_slice(b"f(")?;
-    }
-    script.extend_from_slice(b"a")?;
-    for turn in 0..999 {
-        script.extend_from_slice(b")")?;
-    }
-    script.extend_from_slice(b"). w(g(X)) :- big(X).\n---\nask(w(Y))\n")?;
-    let mut src = MemSource::new(alloc, &script, 100, &[])?;
+    let mut src = MemSource::new(alloc, script, 100, &[])?;
     let mut out = MemSink::new(alloc, &[])?;
     let mut err = MemSink::new(alloc, &[])?;
-    assert_eq!(rt; run_plain(alloc, &words, &mut src, &mut out, &mut err), 0);
-    let lines = b"create\nerror(resource_error(text))\ndestroy\n";
-    assert_eq!(rt; out.taken(), lines.as_slice());
-    Ok(())
+    let status = run_plain(alloc, &words, &mut src, &mut out, &mut err);
+    let is_run = status == 0 && !out.taken().is_empty() && err.taken().is_empty();
+    let is_refused = status == 3 && out.taken().is_empty() && !err.taken().is_empty();
+    Ok(src.left().is_empty() && (is_run || is_refused))
 }
 
 #[test]
-fn a_refused_goal_too_deep_for_an_event_is_an_error(rt: HostRuntime) -> Result<(), Fail> {
+fn a_script_may_end_anywhere(rt: HostRuntime) -> Result<(), Fail> {
     let alloc = rt.alloc();
+    let script = b"p(a). p('b c'). % d\r\n---\ncreate([chunk(2)])\nask(p(X),[template(X)])\nnext\n";
+    let mut front = Vec::new(alloc);
+    for byte in script {
+        assert!(rt; is_answered(alloc, &front)?);
+        front.push(*byte)?;
+    }
+    assert!(rt; is_answered(alloc, &front)?);
+    Ok(())
+}
+
+fn append_times(script: &mut Vec<u8>, part: &[u8], count: u32) -> Result<(), Memory> {
+    for _ in 0..count {
+        script.extend_from_slice(part)?;
+    }
+    Ok(())
+}
+
+// Runs a script with `a` nested so deep in `f` between its two parts, whose one answer is too deep for an event.
+fn is_too_deep(alloc: Global, before: &[u8], depth: u32, behind: &[u8]) -> Result<bool, Memory> {
     let words = vec![in alloc; String::from_str(alloc, "session")?]?;
-    let mut script = b"---\nask((".to_vec(alloc)?;
-    for turn in 0..998 {
-        script.extend_from_slice(b"f(")?;
-    }
-    script.extend_from_slice(b"a")?;
-    for turn in 0..998 {
-        script.extend_from_slice(b")")?;
-    }
-    script.extend_from_slice(b",1))\n")?;
+    let mut script = before.to_vec(alloc)?;
+    append_times(&mut script, b"f(", depth)?;
+    script.push(b'a')?;
+    append_times(&mut script, b")", depth)?;
+    script.extend_from_slice(behind)?;
     let mut src = MemSource::new(alloc, &script, 100, &[])?;
     let mut out = MemSink::new(alloc, &[])?;
     let mut err = MemSink::new(alloc, &[])?;
-    assert_eq!(rt; run_plain(alloc, &words, &mut src, &mut out, &mut err), 0);
+    let status = run_plain(alloc, &words, &mut src, &mut out, &mut err);
     let lines = b"create\nerror(resource_error(text))\ndestroy\n";
-    assert_eq!(rt; out.taken(), lines.as_slice());
+    Ok(status == 0 && out.taken() == lines.as_slice())
+}
+
+#[test]
+fn a_term_too_deep_for_an_event_is_an_error(rt: HostRuntime) -> Result<(), Fail> {
+    let alloc = rt.alloc();
+    let asked = b"). w(g(X)) :- big(X).\n---\nask(w(Y))\n";
+    assert!(rt; is_too_deep(alloc, b"big(", 999, asked)?);
+    assert!(rt; is_too_deep(alloc, b"---\nask((", 998, b",1))\n")?);
     Ok(())
 }

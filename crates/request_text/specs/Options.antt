@@ -1,4 +1,4 @@
--- Options: a proper list of terms name(Value), each name at most once.
+-- Options: a proper list of terms name(Value), each name at most once (after Lager and Wielemaker, TPLP 2014, section 3).
 use Rattle.std.specs.Prelude.{ℕ, Bool, ◌||◌, List, [], ◌∷◌, Option, Some, None, if◌then◌else◌, codes, bytes_eq}
 use Rattle.std.specs.List.{list_all, filter_map}
 use Rattle.term_core.specs.Tree.{Tree, compound, no_trees, tree}

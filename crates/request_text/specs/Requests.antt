@@ -1,4 +1,4 @@
--- The request that a term spells.
+-- The request that a term spells (after Lager and Wielemaker, TPLP 2014, section 3).
 use Rattle.std.specs.Prelude.{ℕ, List, [], ◌∷◌, Option, Some, None, if◌then◌else◌, codes, bytes_eq}
 use Rattle.term_core.specs.Tree.{Tree, atom, compound, tree_list}
 use Rattle.event_core.specs.declared.request.Request.TheVariants as request

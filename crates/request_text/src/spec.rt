@@ -28,7 +28,8 @@ pub struct Options {
     pub template: Option<Text>,
     /// The source text of the program.
     pub src_text: Text,
-    /// How many answers an event holds where an ask names no number; from 1 to 1,000.
+    /// How many answers an event holds where an ask names no number; from 1 to 1,000. It holds fewer where their texts have
+    /// [`CHUNK_BYTES`](event_core::CHUNK_BYTES) together.
     pub chunk: u32,
     /// How many steps each query may make; from 1 to [`MAX_LIMIT`](event_core::MAX_LIMIT).
     pub limit: u64,

@@ -6,7 +6,7 @@ ghost use Rattle.resolution_tests.specs.Live.{IsLive, IsOwn, IsAlone, HasGone};
 
 use crate::words::{ask, program, term};
 use event_core::{Event, Request, Spec};
-use session::{Given, Made, Pulled, SendFault, Session, Took, Turn};
+use session::{Given, Pulled, SendFault, Session, Took, Turn};
 use std::alloc::Global;
 use std::test::Fail;
 use term_core::Memory;

@@ -30,13 +30,15 @@ impl From<Memory> for Unsafe {
 }
 
 impl Unsafe {
+    ghost use Rattle.sandbox_walk.specs.declared.unsafe_goal.Unsafe.TheVariants as unsafe_goal;
     ghost use Rattle.sandbox_walk.specs.Formal.{formal_of};
-    ghost use Rattle.std.specs.Prelude.{◌≡◌, IfOk};
+    ghost use Rattle.std.specs.Prelude.{◌≡◌, ◌≢◌, IfOk, OnOk};
 
     /// What is wrong, as an error term says it: `permission_error(call,sandboxed,Name/Arity)`, `instantiation_error` or
     /// `type_error(callable,T)` (ISO 13211-1, 7.12.2). `Err` is want of memory, also where that is what `self` tells.
     pub fn formal(&self, alloc: Global) -> Result<Term, Memory>
-        ensures { IfOk result (λ t. t ≡ formal_of self.now) }
+        ensures formal { IfOk result (λ t. t ≡ formal_of self.now) }
+        ensures memory { OnOk result (self.now ≢ unsafe_goal.Memory) }
     {
         match self {
             Unsafe::Sandboxed(pi) => sandboxed_error(alloc, pi),

@@ -7,7 +7,7 @@ use Rattle.event_core.specs.Full.{Query, part_of, events_of}
 use Rattle.event_core.specs.Laws.{StaysInside, replying}
 use Rattle.event_core.specs.Parts.{Part}
 use Rattle.event_core.specs.Standing.{spec_of}
-use Rattle.session.specs.declared.made.Made.{Made}
+use Rattle.event_core.specs.declared.made.Made.{Made}
 use Rattle.session.specs.declared.turn.Gone as kept
 use Rattle.session.specs.declared.turn.Turn.TheInside.{Inside}
 use Rattle.session.specs.After as state

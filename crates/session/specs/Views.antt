@@ -110,11 +110,6 @@ turn_at v q = record {
   gone = None;
 }
 
--- events that were handed out together, and the number of the first
-pub record Waits : Type 0 where
-  pub first : ℕ
-  pub events : List Event
-
 -- the turn of the query that is out
 pub record IsPresent (v : View) (t : TurnView) (room further : ℕ) : Type 0 where
   pub clauses : t.clauses ≡ v.clauses

@@ -20,9 +20,8 @@ use crate::ring::put;
 use crate::state::State;
 use crate::took::Took;
 use crate::turn::{Gone, Turn};
-use crate::waiting::Waiting;
 use circular_buffer::HeapCircularBuffer;
-use event_core::{Event, Request, Rest, Settings};
+use event_core::{Event, Request, Rest, Settings, Waiting};
 use program::Program;
 use std::alloc::Global;
 use std::collections::LinkedList;
@@ -480,9 +479,6 @@ impl Automaton {
         if !matches!(state, State::Ended) {
             put(&mut queue, Event::Destroy);
         }
-        Waiting {
-            first: pulled,
-            events: queue,
-        }
+        Waiting::new(pulled, queue)
     }
 }

@@ -1,7 +1,7 @@
 // Laws that hold of every pengine over resolution.
 ghost use Rattle.session.specs.Laws.{KeptProgramsResolve, TurnsStartWell, ScheduleDoesntMatter, NoMoreWait, LostTurnsAreOlder};
 
-/// The schedule doesn't matter: for every list of entries that a pengine can have, its events begin the list that resolution defines for its requests, with each abort, destroy and want of memory striking at one step. Where nothing runs and no request waits they are all of that list.
+/// The schedule doesn't matter: for every list of entries that a pengine can have, its events begin the list that resolution defines for its requests, with each abort, destroy and want of memory striking at one step. It holds where the events of each query are those of resolution, as they are over a program that keeps to the sandbox ([`kept_programs_resolve`]). Where nothing runs and no request waits they are all of that list.
 pub fn schedule_doesnt_matter()
     ensures { ScheduleDoesntMatter }
 {}

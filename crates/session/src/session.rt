@@ -12,7 +12,6 @@ use crate::automaton::{Automaton, MOST_REQUESTS, MOST_WAITING};
 use crate::state::State;
 use crate::took::Took;
 use crate::turn::Turn;
-use crate::waiting::Waiting;
 use event_core::{Request, Settings, Spec};
 use std::alloc::Global;
 use std::marker::Model;

@@ -3,9 +3,8 @@ ghost use Rattle.session.specs.Views as view;
 
 use crate::copies::copies;
 use crate::cut::{are_numbers, cut, end_of, events_after, is_full, reach_of, rest_after, steps_of};
-use crate::made::Made;
 use crate::query::Query;
-use event_core::{Event, Reached, Rest, Settings, reach};
+use event_core::{Event, Made, Reached, Rest, Settings, reach};
 use std::alloc::Global;
 use std::marker::Model;
 use term_core::{List, Memory};
@@ -89,8 +88,8 @@ impl Turn {
     }
 
     /// Runs the query on, by at most `budget` steps, which are at least 1. The turn ends at its budget, when its events fill its
-    /// room, or where the query rests. Want of memory strikes at its start, and is in the turn as the event `memory`. A turn goes
-    /// once.
+    /// room, or where the query rests. Want of memory ends it, and is in the turn as the event `memory`, which is then its last.
+    /// A turn goes once.
     pub fn go(&mut self, budget: u64) -> Made
         requires once { self.old.gone ≡ None }
         requires some { 0 < budget }

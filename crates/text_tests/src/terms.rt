@@ -37,16 +37,19 @@ fn built(alloc: Global, parts: &[Part]) -> Result<Term, Memory> {
 }
 
 fn text_is_kept(alloc: Global) -> Result<bool, Memory> {
-    let mut text = Text::from_str(alloc, "ab")?;
+    let mut text = Text::new(alloc);
+    text.push_str("ab")?;
     text.push_str("c")?;
-    Ok(text.copied(alloc)?.as_str() == "abc")
+    let same = Text::from_str(alloc, text.as_str())?;
+    Ok(text.len() == 3 && same.copied(alloc)?.as_str() == "abc")
 }
 
 fn bytes_are_kept(alloc: Global) -> Result<bool, Memory> {
     let mut bytes = Bytes::new(alloc);
     bytes.push(7)?;
     bytes.append(&[8, 9])?;
-    Ok(bytes.copied(alloc)?.as_slice() == [7, 8, 9].as_slice())
+    let same = Bytes::from_vec(bytes.copied(alloc)?.into_vec());
+    Ok(same.len() == 3 && same.as_slice() == [7, 8, 9].as_slice())
 }
 
 fn list_is_kept(alloc: Global) -> Result<bool, Memory> {

@@ -8,5 +8,5 @@ returns-in-Ok c = passes c.args.program.now.value c.args.ask.now c.in-Ok.ensures
 
 pub returns : goal.returns
 returns c =
-    ap Some (c.in_ok-told-in-Err.ensures ∙ ap told_error c.in_ok-formal-in-Err.ensures)
+    ap Some (c.in_ok-told-in-Err.ensures ∙ ap told_error c.in_ok-formal-in-Err.ensures.formal)
     ∙ refuses c.args.program.now.value c.args.ask.now c.in-Err.refused (sym c.is_verdict.ensures ∙ c.if-not-is_verdict.false) c.in-Err.ensures.refused

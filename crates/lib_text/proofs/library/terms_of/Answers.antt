@@ -1,6 +1,5 @@
-use Rattle.std.proofs.Common.{map}
 use Rattle.prolog_read.specs.Clauses.{iso}
-use Rattle.prolog_read.specs.Outcome.{clauses_read, read_as}
+use Rattle.prolog_read.specs.Outcome.{clauses_read}
 use Rattle.lib_text.proofs.Reading.{all_numbered}
 use Rattle.lib_text.proofs.Terms.{all_read}
 use Rattle.lib_text.proofs.library.terms_of.Goals as goal
@@ -12,4 +11,4 @@ pub returns-in-Ok-clause-clauses : goal.returns-in-Ok-clause-clauses
 returns-in-Ok-clause-clauses c = all_read c.in-Ok.terms.items (clauses_read iso c.args.text.now) c.in-Ok.ensures.exact
 
 pub returns-in-Ok-clause-read : goal.returns-in-Ok-clause-read
-returns-in-Ok-clause-read c = (map read_as c.in-Ok.terms.items, c.in-Ok.ensures.exact)
+returns-in-Ok-clause-read c = c.in-Ok.ensures.exact

@@ -1,8 +1,8 @@
 use Rattle.std.proofs.Common.{true, false, List, ap, ◌∙◌}
 use Rattle.term_core.specs.declared.read_term.ReadTerm.{ReadTerm}
 use Rattle.program.specs.Source.{clauses_in, trees_read, program_of}
-use Rattle.library_check.proofs.Loading.{alone}
-use Rattle.library_check.proofs.keeping.alone.Goals as goal
+use Rattle.lib_text.proofs.Accepted.{alone}
+use Rattle.lib_text.proofs.library.alone.Goals as goal
 
 pub returns-in-Ok : goal.returns-in-Ok
 returns-in-Ok c =

@@ -1,20 +1,20 @@
 ghost use Rattle.std.specs.Prelude.{◌≡◌, ◌==◌, min, ◌+◌, ◌-◌, ◌^◌, [], ◌∷◌, length, IfSome, IfNone};
 
+use crate::event::Event;
 use circular_buffer::HeapCircularBuffer;
-use event_core::Event;
 use std::marker::Model;
 
 /// The events that waited when a pengine was destroyed, which contracts see as a list beside the first one's number.
 #[derive(Debug, Drop)]
 pub struct Waiting {
-    pub(crate) first: u64,
-    pub(crate) events: HeapCircularBuffer<Event>,
+    first: u64,
+    events: HeapCircularBuffer<Event>,
 }
 
 impl Model for Waiting {
     ghost use Rattle.std.specs.Coded.{codes};
     ghost use Rattle.term_core.specs.Flat.{tree_code};
-    ghost use Rattle.session.specs.Views.{Waits};
+    ghost use Rattle.event_core.specs.Waits.{Waits};
 
     ghost Value = { Waits };
 
@@ -24,6 +24,14 @@ impl Model for Waiting {
 }
 
 impl Waiting {
+    /// These events, the first of which has the number `first`. It takes no memory.
+    pub fn new(first: u64, events: HeapCircularBuffer<Event>) -> Waiting
+        ensures first { result.first ≡ first }
+        ensures events { result.events ≡ events.items }
+    {
+        Waiting { first, events }
+    }
+
     /// How many events are left; at most 66.
     pub fn len(&self) -> usize
         ensures { result ≡ length self.now.events }
