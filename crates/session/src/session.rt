@@ -12,7 +12,7 @@ use crate::automaton::{Automaton, MOST_REQUESTS, MOST_WAITING};
 use crate::state::State;
 use crate::took::Took;
 use crate::turn::Turn;
-use event_core::{Request, Settings, Spec};
+use event_core::{Request, Settings, Spec, Waiting};
 use std::alloc::Global;
 use std::marker::Model;
 use term_core::Memory;
