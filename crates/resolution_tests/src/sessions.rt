@@ -5,7 +5,7 @@ ghost use Rattle.session.specs.Views.{IsTurnOf};
 ghost use Rattle.resolution_tests.specs.Live.{IsLive, IsOwn, IsAlone, HasGone};
 
 use crate::words::{ask, program, term};
-use event_core::{Event, Request, Spec};
+use event_core::{Event, Made, Request, Spec};
 use session::{Given, Pulled, SendFault, Session, Took, Turn};
 use std::alloc::Global;
 use std::test::Fail;
