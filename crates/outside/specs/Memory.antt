@@ -1,5 +1,6 @@
--- The source and the sink in memory as values, and what a call does beyond the traits' clauses.
-use Rattle.std.specs.Prelude.{◌≡◌, ◌≤◌, ◌↔◌, ℕ, List, Contains, ⊤}
+-- The source, the sink and the wire in memory as values, and what a call does beyond the traits' clauses.
+use Rattle.std.specs.Prelude.{◌≡◌, ◌+◌, ◌≤◌, ◌↔◌, ℕ, List, Some, Contains, ⊤}
+use Rattle.std.proofs.Common.{ap}
 use Rattle.outside.specs.declared.source.ReadGot.{ReadGot}
 use Rattle.outside.specs.declared.source.ReadGot.TheVariants.{Got, End, Failed}
 use Rattle.outside.specs.declared.sink.Wrote.{Wrote}
@@ -42,3 +43,28 @@ pub record WritesInMemory (old : SinkState) (result : Wrote) (new : SinkState) :
   pub counted : new.writes ≡ one_more old.writes
   pub fails : Contains old.fails new.writes → result ≡ WriteFailed
   pub same_fails : new.fails ≡ old.fails
+
+-- a wire in memory: its two ways
+pub record WireState : Type 0 where
+  pub source : SourceState
+  pub sink : SinkState
+
+-- the faults of both ways
+abbrev pub wire_faults : WireState → ℕ
+wire_faults w = w.source.faults + w.sink.faults
+
+-- A read is the source's, and leaves the sink as it was.
+pub record WireReads (old : WireState) (result : ReadGot) (new : WireState) : Type 0 where
+  pub source : ReadsInMemory old.source result new.source
+  pub sink : new.sink ≡ old.sink
+
+-- A write is the sink's, and leaves the source as it was.
+pub record WireWrites (old : WireState) (result : Wrote) (new : WireState) : Type 0 where
+  pub sink : WritesInMemory old.sink result new.sink
+  pub source : new.source ≡ old.source
+
+pub wire_read_keeps : (w v : WireState) (r : ReadGot) → WireReads w r v → Some v.sink.taken ≡ Some w.sink.taken
+wire_read_keeps w v r reads = ap (λ (s : SinkState). Some s.taken) reads.sink
+
+pub wire_write_keeps : (w v : WireState) (r : Wrote) → WireWrites w r v → Some v.source.left ≡ Some w.source.left
+wire_write_keeps w v r writes = ap (λ (s : SourceState). Some s.left) writes.source

@@ -1,16 +1,18 @@
 -- Substitutions one after another.
 use Rattle.std.proofs.Common.{◌≡◌, ℕ, List, [], ◌∷◌, ◌++◌, map, Bool, true, false, cond, ◌==◌, refl, ap, ◌∙◌, sym, arith, subst, Option}
-use Rattle.std.specs.List.{zip}
+use Rattle.std.specs.List.{zip, list_any}
 use Rattle.std.specs.Option.{option_map}
 use Rattle.std.proofs.lemmas.Bool.Decides.{nat_tests}
+use Rattle.std.proofs.lemmas.List.Folds.{list_any-append}
 use Rattle.term_core.specs.Tree.{Tree, variable, integer, atom, compound, Trees, no_trees, tree}
 use Rattle.term_core.specs.Substitution.{substituted, all_substituted, value_of, apply, only, extended, pairs_substituted, followed_by}
-use Rattle.term_core.specs.Unification.{Solves, at_end, at_clash, after_reduce, after_bind}
-use Rattle.term_core.specs.Unifier.{Pairs, Pointwise, solution, turns, by_derivation, Solves-solution}
+use Rattle.term_core.specs.Variables.{occurrences, all_occurrences}
+use Rattle.term_core.specs.Unification.{contains_variable, Solves, at_end, at_clash, after_reduce, after_bind}
+use Rattle.term_core.specs.Unifier.{Pairs, Pointwise, first_false, second_false, solution, turns, by_derivation, Solves-solution}
 
 -- a variable for itself changes nothing
 mutual
-  substituted-variable : (t : Tree) → substituted variable t ≡ t
+  pub substituted-variable : (t : Tree) → substituted variable t ≡ t
   substituted-variable (variable n) = refl
   substituted-variable (integer z) = refl
   substituted-variable (atom a) = refl
@@ -48,16 +50,35 @@ by_case true g t u = refl
 by_case false g t u = refl
 
 module _ (m : ℕ) (u : Tree) where
-  value_of-extended : (c : Pointwise) (n : ℕ) → value_of (extended c m u) n ≡ substituted (only m u) (value_of c n)
+  pub value_of-extended : (c : Pointwise) (n : ℕ) → value_of (extended c m u) n ≡ substituted (only m u) (value_of c n)
   value_of-extended [] n = value_of-only m u n
   value_of-extended (p ∷ ps) n =
       ap (cond (p.0 == n) (substituted (only m u) p.1)) (value_of-extended ps n)
       ∙ sym (by_case (p.0 == n) (substituted (only m u)) p.1 (value_of ps n))
 
   -- a term under a substitution, and then under one more binding
-  apply-extended : (c : Pointwise) (t : Tree) → substituted (only m u) (apply c t) ≡ apply (extended c m u) t
+  pub apply-extended : (c : Pointwise) (t : Tree) → substituted (only m u) (apply c t) ≡ apply (extended c m u) t
   apply-extended c t =
       substituted-substituted (value_of c) (only m u) t ∙ ap (λ g. substituted g t) (λ i n. sym (value_of-extended c n) i)
+
+  pub contains-more : (xs ys : List ℕ) → list_any (λ n. n == m) (xs ++ ys) ≡ false → (list_any (λ n. n == m) xs ≡ false) × (list_any (λ n. n == m) ys ≡ false)
+  contains-more xs ys h =
+      let both = sym (list_any-append (λ n. n == m) xs ys) ∙ h in
+      (first_false (list_any (λ n. n == m) xs) (list_any (λ n. n == m) ys) both, second_false (list_any (λ n. n == m) xs) (list_any (λ n. n == m) ys) both)
+
+  -- a term without the variable stays
+  mutual
+    pub substituted-outside : (t : Tree) → contains_variable m t ≡ false → substituted (only m u) t ≡ t
+    substituted-outside (variable n) h = ap (λ b. cond b u (variable n)) (first_false (n == m) false h)
+    substituted-outside (integer z) h = refl
+    substituted-outside (atom a) h = refl
+    substituted-outside (compound f ts) h = ap (compound f) (all_substituted-outside ts h)
+
+    all_substituted-outside : (ts : Trees) → list_any (λ n. n == m) (all_occurrences ts) ≡ false → all_substituted (only m u) ts ≡ ts
+    all_substituted-outside no_trees h = refl
+    all_substituted-outside (tree t ts) h =
+        let both = contains-more (occurrences t) (all_occurrences ts) h in
+        (λ i. tree (substituted-outside t both.0 i) (all_substituted-outside ts both.1 i))
 
   pub extended-followed_by : (s c : Pointwise) → extended (followed_by s c) m u ≡ followed_by s (extended c m u)
   extended-followed_by [] c = refl

@@ -1,4 +1,4 @@
-use Rattle.std.proofs.Common.{◌≡◌, ap, ◌∙◌, sym, unwrap_or, length, arith}
+use Rattle.std.proofs.Common.{◌≡◌, ◌∙◌, sym, unwrap_or, length, arith}
 use Rattle.term_core.proofs.PlacesLemmas.{place_of-place_among}
 use Rattle.term_core.proofs.places.Places.place.Goals as goal
 

@@ -1,7 +1,6 @@
-use Rattle.std.proofs.Common.{◌≡◌, ℕ, ap, ◌∙◌, sym, Some, cond, length, false, true, ◌++◌, ◌∷◌, [], arith}
+use Rattle.std.proofs.Common.{◌≡◌, ℕ, ap, ◌∙◌, sym, Some, cond, length, ◌++◌, ◌∷◌, [], arith}
 use Rattle.std.specs.Ordering.{nat_cmp}
 use Rattle.std.specs.BTreeMap.{get, is_at}
-use Rattle.term_core.specs.Variables.{with_new}
 use Rattle.term_core.proofs.PlacesLemmas.{with_new_is, places_after}
 use Rattle.term_core.proofs.places.Places.see.Goals as goal
 

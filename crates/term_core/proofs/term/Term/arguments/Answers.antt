@@ -1,4 +1,4 @@
-use Rattle.std.proofs.Common.{arith, ap, length, subst, sym, ◌∙◌, drop, List}
+use Rattle.std.proofs.Common.{arith, ap, length, subst, sym, ◌∙◌, drop}
 use Rattle.term_core.specs.Flat.{build}
 use Rattle.term_core.specs.Preorder.{AreTermNodes}
 use Rattle.term_core.proofs.Preorder.{AreTermNodes-drop, AreTermNodes-flatten}

@@ -1,0 +1,12 @@
+pub mod AnswerLaws
+pub mod Answered
+pub mod Framing
+pub mod HeadLaws
+pub mod Heads
+pub mod Heard
+pub mod Limits
+pub mod Reads
+pub mod Requests
+pub mod Single
+pub mod Stopping
+pub mod Texts
