@@ -1,0 +1,155 @@
+// Tables of scripts: what a session's events are, line by line.
+use crate::calls::{command, turned};
+use crate::loading::{begun, script};
+use crate::row::Row;
+use crate::stop::Stop;
+use crate::terms::of_bytes;
+use event_core::line;
+use lib_text::Library;
+use program::ProgFault;
+use request_text::{Script, ScriptFault, Sent, SpecFault, place_of};
+use session::{Pulled, SendFault, Session};
+use std::alloc::Global;
+
+/// A session under way, and what was printed; a session that was destroyed is none.
+#[derive(Drop)]
+struct Run {
+    session: Option<Session>,
+    printed: String,
+}
+
+impl Run {
+    fn print(&mut self, text: &str) -> Result<(), Stop> {
+        self.printed.push_str(text)?;
+        self.printed.push('\n')?;
+        Ok(())
+    }
+
+    /// Runs the session to its rest, and prints its events.
+    fn rest(&mut self, alloc: Global) -> Result<(), Stop> {
+        for _ in 0..u64::MAX {
+            let Some(session) = &mut self.session else {
+                break;
+            };
+            match session.pull() {
+                Pulled::Event(_, event) => {
+                    let text = of_bytes(line(alloc, &event)?)?;
+                    self.print(&text)?;
+                }
+                Pulled::Pending | Pulled::Ended => {
+                    if turned(session, 1000).is_err() {
+                        break;
+                    }
+                }
+            }
+        }
+        Ok(())
+    }
+
+    /// Sends what a line of a script sends.
+    fn send(&mut self, alloc: Global, sent: Sent) -> Result<(), Stop> {
+        let Some(session) = &mut self.session else {
+            return self.print("ended");
+        };
+        if session.ended() {
+            return self.print("ended");
+        }
+        match sent {
+            Sent::Request(request) => session.send(request).map_err(refused)?,
+            Sent::Abort => session.abort(),
+            Sent::Destroy => return self.destroy(alloc),
+        }
+        self.rest(alloc)
+    }
+
+    /// Ends the session, and prints the events that wait.
+    fn destroy(&mut self, alloc: Global) -> Result<(), Stop> {
+        let Some(session) = self.session.take() else {
+            return self.print("ended");
+        };
+        let mut waiting = session.destroy();
+        while let Some((_, event)) = waiting.next() {
+            let text = of_bytes(line(alloc, &event)?)?;
+            self.print(&text)?;
+        }
+        Ok(())
+    }
+
+    /// Makes a call of the session, and prints its answer.
+    fn call(&mut self, alloc: Global, text: &str) -> Result<(), Stop> {
+        if text == "destroy" {
+            return self.destroy(alloc);
+        }
+        let Some(session) = &mut self.session else {
+            return Err(Stop::Malformed);
+        };
+        let answer = command(alloc, session, text)?;
+        self.print(&answer)
+    }
+}
+
+fn refused(fault: SendFault) -> Stop {
+    match fault {
+        SendFault::Ended | SendFault::MailboxFull => Stop::Malformed,
+        SendFault::Memory => Stop::Memory,
+    }
+}
+
+/// Why a script is refused.
+fn refusal(alloc: Global, fault: ScriptFault) -> Result<String, Stop> {
+    let text = match fault {
+        ScriptFault::Utf8 { at } => format!(in alloc; "source refused at byte {at}\n")?,
+        ScriptFault::Spec(SpecFault::Source(fault)) => {
+            format!(in alloc; "source refused at byte {}\n", place_of(fault))?
+        }
+        ScriptFault::Spec(SpecFault::Clause(
+            ProgFault::BadDirective { clause }
+            | ProgFault::NotCallable { clause }
+            | ProgFault::Redefines { clause, .. },
+        )) => format!(in alloc; "source refused at clause {clause}\n")?,
+        ScriptFault::Line { line, at } => format!(in alloc; "line {line} refused at byte {at}\n")?,
+        ScriptFault::Spec(_) | ScriptFault::Memory => return Err(Stop::Memory),
+    };
+    Ok(text)
+}
+
+/// What a script prints, and then calls of its session, one a line.
+pub(crate) fn transcript(
+    alloc: Global,
+    library: &Library,
+    text: &[u8],
+    calls: &str,
+) -> Result<String, Stop> {
+    let Script {
+        program,
+        settings,
+        lines,
+    } = match script(alloc, library, text) {
+        Ok(script) => script,
+        Err(fault) => return refusal(alloc, fault),
+    };
+    let mut run = Run {
+        session: Some(begun(alloc, program, settings)?),
+        printed: String::from_str(alloc, "create\n")?,
+    };
+    for sent in lines.into_vec() {
+        run.send(alloc, sent)?;
+    }
+    for call in calls.lines() {
+        run.call(alloc, call)?;
+    }
+    Ok(run.printed)
+}
+
+/// The line of a goal's answers over the library, 50 at a time, by a template.
+pub(crate) fn answers_of(alloc: Global, library: &Library, row: &Row) -> Result<String, Stop> {
+    let goal = row.field(0);
+    let template = row.field(1);
+    let text = format!(in alloc; "---\nask({goal},[template({template}),chunk(50)])\n")?;
+    let lines = transcript(alloc, library, text.as_bytes(), "")?;
+    let Some(behind) = lines.strip_prefix("create\n") else {
+        return Ok(lines);
+    };
+    let line = behind.strip_suffix("\ndestroy\n").ok_or(Stop::Malformed)?;
+    Ok(String::from_str(alloc, line)?)
+}
