@@ -33,13 +33,23 @@ fn ran(session: &Session, turn: &mut Turn, budget: u64) -> Made
     turn.go(budget)
 }
 
-/// What a turn of so many steps made, and what became of it; or why there is none.
-pub(crate) fn turned(session: &mut Session, budget: u64) -> Result<(Made, Given), &'static str>
+/// What a turn did.
+#[derive(Drop)]
+pub(crate) struct TurnOutcome {
+    query: u64,
+    made: Made,
+    given: Given,
+}
+
+/// Takes a turn, lets it go so many steps, and gives it back; or tells why there is none.
+pub(crate) fn turned(session: &mut Session, budget: u64) -> Result<TurnOutcome, &'static str>
     requires { 0 < budget }
 {
     let mut turn = taken(session)?;
+    let query = turn.query();
     let made = ran(session, &mut turn, budget);
-    Ok((made, session.give(turn)))
+    let given = session.give(turn);
+    Ok(TurnOutcome { query, made, given })
 }
 
 fn given_name(given: Given) -> &'static str {
@@ -54,9 +64,10 @@ fn run(alloc: Global, session: &mut Session, budget: u64) -> Result<String, Stop
         return Err(Stop::Malformed);
     }
     match turned(session, budget) {
-        Ok((made, given)) => {
+        Ok(TurnOutcome { query, made, given }) => {
+            let Made { steps, events } = made;
             let given = given_name(given);
-            Ok(format!(in alloc; "{} steps, {} events, {given}", made.steps, made.events)?)
+            Ok(format!(in alloc; "query {query}: {steps} steps, {events} events, {given}")?)
         }
         Err(word) => Ok(String::from_str(alloc, word)?),
     }
@@ -96,20 +107,8 @@ fn take(session: &mut Session) -> &'static str {
 fn plain_call(session: &mut Session, text: &str) -> Result<&'static str, Stop> {
     let answer = match text {
         "take" => take(session),
-        "ready" => {
-            if session.ready() {
-                "true"
-            } else {
-                "false"
-            }
-        }
-        "has ended" => {
-            if session.ended() {
-                "true"
-            } else {
-                "false"
-            }
-        }
+        "ready" => { if session.ready() { "true" } else { "false" } }
+        "has ended" => { if session.ended() { "true" } else { "false" } }
         "abort" => {
             session.abort();
             "aborted"

@@ -200,12 +200,7 @@ fn by_terms(
 }
 
 /// What a primitive on texts or lists gives; `None` where the goal is none of these.
-fn called(
-    alloc: Global,
-    store: &mut Store,
-    pi: &Pi,
-    args: &[Cell],
-) -> Result<Option<Outcome>, Stop>
+fn called(alloc: Global, store: &mut Store, pi: &Pi, args: &[Cell]) -> Result<Option<Outcome>, Stop>
     requires cells { All (IsCell store.old) args.now }
     requires count { length args.now ≡ pi.now.arity }
 {
@@ -315,7 +310,10 @@ pub(crate) fn bag_of(alloc: Global, row: &Row) -> Result<String, Stop> {
         let cell = store.put(&term(alloc, solution)?, 0)?;
         bag.add(&store, cell)?;
     }
-    let places = vec![in alloc; String::from_str(alloc, "Witness")?, String::from_str(alloc, "List")?]?;
+    let places = vec![in alloc;
+        String::from_str(alloc, "Witness")?,
+        String::from_str(alloc, "List")?,
+    ]?;
     let offers = bag.finish(&mut store)?;
     offers_text(alloc, &mut store, &places, offers)
 }

@@ -41,7 +41,11 @@ pub(crate) fn builtin_of(alloc: Global, field: &str) -> Result<String, Stop> {
         Some(row) => builtin_text(alloc, row)?,
         None => String::from_str(alloc, "none")?,
     };
-    let may = if table.reserved().contains(&pi) { "reserved" } else { "free" };
+    let may = if table.reserved().contains(&pi) {
+        "reserved"
+    } else {
+        "free"
+    };
     Ok(format!(in alloc; "{row}\t{may}")?)
 }
 
@@ -77,7 +81,8 @@ pub(crate) fn predicate_of(alloc: Global, row: &Row) -> Result<String, Stop> {
     let program = load_standard(alloc, row.field(0), row.field(1))?;
     let mut text = String::new(alloc);
     for clause in program.clauses(&indicator(alloc, row.field(2))?) {
-        write!(text, "{} ", clause.vars)?;
+        let space = if text.is_empty() { "" } else { " " };
+        write!(text, "{space}{}", clause.vars)?;
     }
     Ok(text)
 }
@@ -107,6 +112,10 @@ fn changed(alloc: Global, without: &str, more: &str) -> Result<String, Stop> {
 pub(crate) fn library_of(alloc: Global, row: &Row) -> Result<String, Stop> {
     let library = changed(alloc, row.field(0), row.field(1))?;
     let program = load(alloc, &[], &library, row.field(2))?;
-    let kept = if keeps_sandbox(alloc, &program)? { "keeps" } else { "leaves" };
+    let kept = if keeps_sandbox(alloc, &program)? {
+        "keeps"
+    } else {
+        "leaves"
+    };
     Ok(String::from_str(alloc, kept)?)
 }

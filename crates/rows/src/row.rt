@@ -1,5 +1,5 @@
-// Rows: fields with tabs between them. `⟨hex⟩` in a field is the character of this code, and `⟨N×text⟩` is the
-// text N times.
+// Rows: fields with tabs between them. `⏎` in a field is the end of a line, `⟨hex⟩` the character of this code,
+// and `⟨N×text⟩` the text N times.
 use crate::stop::Stop;
 use std::alloc::Global;
 
@@ -39,14 +39,23 @@ pub(crate) fn plain(alloc: Global, field: &str) -> Result<String, Stop> {
     let mut rest = field;
     while let Some((before, behind)) = rest.split_once('⟨') {
         let (code, others) = behind.split_once('⟩').ok_or(Stop::Malformed)?;
-        text.push_str(before)?;
+        push_part(&mut text, before)?;
         push_code(&mut text, code)?;
         rest = others;
     }
-    text.push_str(rest)?;
+    push_part(&mut text, rest)?;
     Ok(text)
 }
 
+/// Adds a part of a field with its line ends.
+fn push_part(text: &mut String, part: &str) -> Result<(), Stop> {
+    for c in part.chars() {
+        text.push(if c == '⏎' { '\n' } else { c })?;
+    }
+    Ok(())
+}
+
+/// Adds what stands between brackets.
 fn push_code(text: &mut String, code: &str) -> Result<(), Stop> {
     let Some((times, part)) = code.split_once('×') else {
         let code = u32::from_str_radix(code, 16).map_err(|_| Stop::Malformed)?;
@@ -54,7 +63,7 @@ fn push_code(text: &mut String, code: &str) -> Result<(), Stop> {
         return Ok(());
     };
     for _ in 0..number(times)? {
-        text.push_str(part)?;
+        push_part(text, part)?;
     }
     Ok(())
 }

@@ -4,7 +4,7 @@ use crate::loading::{begun, script};
 use crate::row::Row;
 use crate::stop::Stop;
 use crate::terms::of_bytes;
-use event_core::line;
+use event_core::{Settings, line};
 use lib_text::Library;
 use program::ProgFault;
 use request_text::{Script, ScriptFault, Sent, SpecFault, place_of};
@@ -57,18 +57,21 @@ impl Run {
         match sent {
             Sent::Request(request) => session.send(request).map_err(refused)?,
             Sent::Abort => session.abort(),
-            Sent::Destroy => return self.destroy(alloc),
+            Sent::Destroy => return self.destroy(alloc, false),
         }
         self.rest(alloc)
     }
 
-    /// Ends the session, and prints the events that wait.
-    fn destroy(&mut self, alloc: Global) -> Result<(), Stop> {
+    /// Ends the session, and prints the events that wait, with their numbers or without.
+    fn destroy(&mut self, alloc: Global, is_numbered: bool) -> Result<(), Stop> {
         let Some(session) = self.session.take() else {
             return self.print("ended");
         };
         let mut waiting = session.destroy();
-        while let Some((_, event)) = waiting.next() {
+        while let Some((number, event)) = waiting.next() {
+            if is_numbered {
+                write!(self.printed, "{number} ")?;
+            }
             let text = of_bytes(line(alloc, &event)?)?;
             self.print(&text)?;
         }
@@ -78,7 +81,7 @@ impl Run {
     /// Makes a call of the session, and prints its answer.
     fn call(&mut self, alloc: Global, text: &str) -> Result<(), Stop> {
         if text == "destroy" {
-            return self.destroy(alloc);
+            return self.destroy(alloc, true);
         }
         let Some(session) = &mut self.session else {
             return Err(Stop::Malformed);
@@ -98,16 +101,18 @@ fn refused(fault: SendFault) -> Stop {
 /// Why a script is refused.
 fn refusal(alloc: Global, fault: ScriptFault) -> Result<String, Stop> {
     let text = match fault {
-        ScriptFault::Utf8 { at } => format!(in alloc; "source refused at byte {at}\n")?,
+        ScriptFault::Utf8 { at } => format!(in alloc; "source refused at byte {at}")?,
         ScriptFault::Spec(SpecFault::Source(fault)) => {
-            format!(in alloc; "source refused at byte {}\n", place_of(fault))?
+            format!(in alloc; "source refused at byte {}", place_of(fault))?
         }
-        ScriptFault::Spec(SpecFault::Clause(
-            ProgFault::BadDirective { clause }
-            | ProgFault::NotCallable { clause }
-            | ProgFault::Redefines { clause, .. },
-        )) => format!(in alloc; "source refused at clause {clause}\n")?,
-        ScriptFault::Line { line, at } => format!(in alloc; "line {line} refused at byte {at}\n")?,
+        ScriptFault::Spec(
+            SpecFault::Clause(
+                ProgFault::BadDirective { clause }
+                | ProgFault::NotCallable { clause }
+                | ProgFault::Redefines { clause, .. },
+            ),
+        ) => format!(in alloc; "source refused at clause {clause}")?,
+        ScriptFault::Line { line, at } => format!(in alloc; "line {line} refused at byte {at}")?,
         ScriptFault::Spec(_) | ScriptFault::Memory => return Err(Stop::Memory),
     };
     Ok(text)
@@ -141,11 +146,29 @@ pub(crate) fn transcript(
     Ok(run.printed)
 }
 
+/// The settings of a script's pengine and how many lines it sends, or where it is refused.
+pub(crate) fn script_of(alloc: Global, library: &Library, text: &str) -> Result<String, Stop> {
+    match script(alloc, library, text.as_bytes()) {
+        Ok(script) => {
+            let Settings {
+                chunk,
+                limit,
+                destroys,
+            } = script.settings;
+            let lines = script.lines.len();
+            Ok(format!(in alloc;
+                "chunk {chunk}, limit {limit}, destroy {destroys}, {lines} lines"
+            )?)
+        }
+        Err(fault) => refusal(alloc, fault),
+    }
+}
+
 /// The line of a goal's answers over the library, 50 at a time, by a template.
 pub(crate) fn answers_of(alloc: Global, library: &Library, row: &Row) -> Result<String, Stop> {
     let goal = row.field(0);
     let template = row.field(1);
-    let text = format!(in alloc; "---\nask({goal},[template({template}),chunk(50)])\n")?;
+    let text = format!(in alloc; "---\nask({goal},[template({template}),chunk(50)])")?;
     let lines = transcript(alloc, library, text.as_bytes(), "")?;
     let Some(behind) = lines.strip_prefix("create\n") else {
         return Ok(lines);

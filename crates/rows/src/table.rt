@@ -1,10 +1,8 @@
-use crate::cells::{
-    bag_of, measures_of, primitive_of, stored_of, unified_of, value_of,
-};
+use crate::cells::{bag_of, measures_of, primitive_of, stored_of, unified_of, value_of};
 use crate::programs::{builtin_of, library_of, predicate_of, program_of, verdict_of};
 use crate::requests::{request_of, spec_of};
 use crate::row::Row;
-use crate::scripts::answers_of;
+use crate::scripts::{answers_of, script_of};
 use crate::stop::Stop;
 use crate::texts::{atom_of, clauses_of, limited_of, operators_of, term_of, tokens_of, written_of};
 use lib_text::Library;
@@ -26,6 +24,7 @@ pub(crate) enum Table {
     Primitives,
     Programs,
     Requests,
+    Scripts,
     Specs,
     Stored,
     Terms,
@@ -37,7 +36,7 @@ pub(crate) enum Table {
 }
 
 /// All tables, with the files' names, and how many fields of a row are given; what follows is to come of them.
-pub(crate) const TABLES: [(Table, &str, u32); 21] = [
+pub(crate) const TABLES: [(Table, &str, u32); 22] = [
     (Table::Answers, "answers", 2),
     (Table::Atoms, "atoms", 1),
     (Table::Bags, "bags", 2),
@@ -51,6 +50,7 @@ pub(crate) const TABLES: [(Table, &str, u32); 21] = [
     (Table::Primitives, "primitives", 1),
     (Table::Programs, "programs", 3),
     (Table::Requests, "requests", 1),
+    (Table::Scripts, "scripts", 1),
     (Table::Specs, "specs", 3),
     (Table::Stored, "stored", 3),
     (Table::Terms, "terms", 1),
@@ -79,6 +79,7 @@ impl Table {
             Table::Primitives => primitive_of(alloc, first),
             Table::Programs => program_of(alloc, row),
             Table::Requests => request_of(alloc, first),
+            Table::Scripts => script_of(alloc, library, first),
             Table::Specs => spec_of(alloc, library, row),
             Table::Stored => stored_of(alloc, row),
             Table::Terms => term_of(alloc, first),
