@@ -52,13 +52,6 @@ pub(crate) fn turned(session: &mut Session, budget: u64) -> Result<TurnOutcome, 
     Ok(TurnOutcome { query, made, given })
 }
 
-fn given_name(given: Given) -> &'static str {
-    match given {
-        Given::Kept => "kept",
-        Given::Dropped => "dropped",
-    }
-}
-
 fn run(alloc: Global, session: &mut Session, budget: u64) -> Result<String, Stop> {
     if budget == 0 {
         return Err(Stop::Malformed);
@@ -66,8 +59,7 @@ fn run(alloc: Global, session: &mut Session, budget: u64) -> Result<String, Stop
     match turned(session, budget) {
         Ok(TurnOutcome { query, made, given }) => {
             let Made { steps, events } = made;
-            let given = given_name(given);
-            Ok(format!(in alloc; "query {query}: {steps} steps, {events} events, {given}")?)
+            Ok(format!(in alloc; "query {query}: {steps} steps, {events} events, {given:?}")?)
         }
         Err(word) => Ok(String::from_str(alloc, word)?),
     }
@@ -105,20 +97,19 @@ fn take(session: &mut Session) -> &'static str {
 
 /// The answer of a call without arguments.
 fn plain_call(session: &mut Session, text: &str) -> Result<&'static str, Stop> {
-    let answer = match text {
-        "take" => take(session),
-        "ready" => { if session.ready() { "true" } else { "false" } }
-        "has ended" => { if session.ended() { "true" } else { "false" } }
+    match text {
+        "take" => Ok(take(session)),
+        "is ready" => Ok(if session.ready() { "yes" } else { "no" }),
+        "has ended" => Ok(if session.ended() { "yes" } else { "no" }),
         "abort" => {
             session.abort();
-            "aborted"
+            Ok("aborted")
         }
-        _ => return Err(Stop::Malformed),
-    };
-    Ok(answer)
+        _ => Err(Stop::Malformed),
+    }
 }
 
-/// The answer of a call: `send REQUEST`, `run STEPS`, `pull`, `take`, `ready`, `has ended` or `abort`.
+/// The answer of a call: `send REQUEST`, `run STEPS`, `pull`, `take`, `is ready`, `has ended` or `abort`.
 pub(crate) fn command(alloc: Global, session: &mut Session, text: &str) -> Result<String, Stop> {
     if let Some(request) = text.strip_prefix("send ") {
         let answer = send(alloc, session, request)?;

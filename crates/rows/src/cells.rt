@@ -199,20 +199,6 @@ fn by_terms(
     }
 }
 
-/// What a primitive on texts or lists gives; `None` where the goal is none of these.
-fn called(alloc: Global, store: &mut Store, pi: &Pi, args: &[Cell]) -> Result<Option<Outcome>, Stop>
-    requires cells { All (IsCell store.old) args.now }
-    requires count { length args.now ≡ pi.now.arity }
-{
-    if prims_text::is_row(pi) {
-        return Ok(Some(prims_text::call(alloc, store, pi, args)?));
-    }
-    if prims_list::is_row(pi) {
-        return Ok(Some(prims_list::call(alloc, store, pi, args)?));
-    }
-    Ok(None)
-}
-
 /// What a goal gives over cells.
 fn over_cells(
     alloc: Global,
@@ -229,10 +215,16 @@ fn over_cells(
     if prims_term::is_row(pi) {
         return by_terms(alloc, store, pi, args, places);
     }
-    match called(alloc, store, pi, args)? {
-        Some(Outcome::Offers(offers)) => offers_text(alloc, store, places, offers),
-        Some(Outcome::Ball(ball)) => ball_text(alloc, &ball),
-        None => Ok(String::from_str(alloc, "other")?),
+    let outcome = if prims_text::is_row(pi) {
+        prims_text::call(alloc, store, pi, args)?
+    } else if prims_list::is_row(pi) {
+        prims_list::call(alloc, store, pi, args)?
+    } else {
+        return Ok(String::from_str(alloc, "other")?);
+    };
+    match outcome {
+        Outcome::Offers(offers) => offers_text(alloc, store, places, offers),
+        Outcome::Ball(ball) => ball_text(alloc, &ball),
     }
 }
 

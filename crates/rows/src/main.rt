@@ -7,6 +7,7 @@
 mod block;
 mod calls;
 mod cells;
+mod faults;
 mod loading;
 mod programs;
 mod requests;
@@ -24,7 +25,7 @@ use std::alloc::Global;
 use std::fs;
 use std::rt::Files;
 use stop::Stop;
-use table::{TABLES, Table};
+use table::{TABLES, differing};
 
 /// How many rows there were, and how many of them differed.
 #[derive(Clone, Copy, Drop)]
@@ -57,12 +58,12 @@ impl Count {
 fn found(
     alloc: Global,
     library: &Library,
-    table: Table,
+    table: &str,
     inputs: u32,
     line: &str,
 ) -> Result<Option<String>, Stop> {
     let row = Row::read(alloc, line, inputs)?;
-    table.differing(alloc, library, &row)
+    differing(alloc, library, table, &row)
 }
 
 /// Runs the sessions of a text, each a block of lines.
@@ -88,11 +89,11 @@ fn run_tables<R: Files + Print + AllocGlobal>(
     library: &Library,
     count: &mut Count,
 ) -> Result<(), Stop> {
-    for (table, name, inputs) in TABLES {
+    for (name, inputs) in TABLES {
         let text = fs::read_to_string(rt, name)?;
         for line in text.lines() {
             if !line.is_empty() && !line.starts_with("-- ") {
-                let found = found(rt.alloc(), library, table, inputs, line);
+                let found = found(rt.alloc(), library, name, inputs, line);
                 count.add(rt, name, line, found)?;
             }
         }

@@ -1,30 +1,20 @@
 // Tables of programs: which sources are accepted, which goals may be asked of them.
+use crate::faults::clause_fault;
 use crate::loading::{load, load_standard};
 use crate::row::Row;
 use crate::stop::Stop;
 use crate::terms::{indicator, shown, term};
-use builtin_table::{Class, Row as Builtin, Table};
+use builtin_table::{Row as Builtin, Table};
 use lib_text::source;
 use library_check::keeps_sandbox;
-use program::ProgFault;
 use prolog_write::Mode;
 use sandbox_walk::check;
 use std::alloc::Global;
 use term_core::Pi;
 
-fn class_name(class: Class) -> &'static str {
-    match class {
-        Class::Control => "control",
-        Class::Safe => "safe",
-        Class::Meta => "meta",
-        Class::Library => "library",
-        Class::Outside => "outside",
-    }
-}
-
 /// A row of the table: its class and its goal positions, each with how many arguments are added.
 fn builtin_text(alloc: Global, row: Builtin) -> Result<String, Stop> {
-    let mut text = String::from_str(alloc, class_name(row.class))?;
+    let mut text = format!(in alloc; "{:?}", row.class)?;
     for (place, added) in row.metas.iter().enumerate() {
         if *added >= 0 {
             write!(text, " {}:{added}", place + 1)?;
@@ -57,23 +47,14 @@ fn indicators(alloc: Global, field: &str) -> Result<Vec<Pi>, Stop> {
     Ok(found)
 }
 
-/// Whether a source is a program over a library, or why one of its clauses is refused.
+/// Whether a source is a program over a library, or which of its clauses is refused.
 pub(crate) fn program_of(alloc: Global, row: &Row) -> Result<String, Stop> {
     let reserved = indicators(alloc, row.field(0))?;
-    let text = match load(alloc, &reserved, row.field(1), row.field(2)) {
-        Ok(_) => String::from_str(alloc, "program")?,
-        Err(Stop::Refused(ProgFault::BadDirective { clause })) => {
-            format!(in alloc; "directive {clause}")?
-        }
-        Err(Stop::Refused(ProgFault::NotCallable { clause })) => {
-            format!(in alloc; "not callable {clause}")?
-        }
-        Err(Stop::Refused(ProgFault::Redefines { clause, .. })) => {
-            format!(in alloc; "redefines {clause}")?
-        }
-        Err(stop) => return Err(stop),
-    };
-    Ok(text)
+    match load(alloc, &reserved, row.field(1), row.field(2)) {
+        Ok(_) => Ok(String::from_str(alloc, "program")?),
+        Err(Stop::Refused(fault)) => clause_fault(alloc, &fault),
+        Err(stop) => Err(stop),
+    }
 }
 
 /// How many variables each clause of a predicate has.

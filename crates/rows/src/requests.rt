@@ -1,12 +1,12 @@
 // Tables of requests and of the options of a new pengine.
+use crate::faults::{read_fault, spec_fault};
 use crate::loading::spec;
 use crate::row::Row;
 use crate::stop::Stop;
-use crate::terms::{fault_text, of_bytes};
+use crate::terms::of_bytes;
 use event_core::{Ask, Request};
 use lib_text::Library;
-use program::ProgFault;
-use request_text::{Options, RequestFault, Sent, SpecFault, place_of, read_request, request_bytes};
+use request_text::{Options, RequestFault, Sent, read_request, request_bytes};
 use std::alloc::Global;
 use term_core::Text;
 
@@ -15,7 +15,7 @@ pub(crate) fn request_of(alloc: Global, text: &str) -> Result<String, Stop> {
     let sent = match read_request(alloc, text) {
         Ok(sent) => sent,
         Err(RequestFault::NotRequest) => return Ok(String::from_str(alloc, "no request")?),
-        Err(RequestFault::Read(fault)) => return fault_text(alloc, fault),
+        Err(RequestFault::Read(fault)) => return read_fault(alloc, fault),
         Err(RequestFault::Memory) => return Err(Stop::Memory),
     };
     let written = of_bytes(request_bytes(alloc, &sent)?)?;
@@ -46,21 +46,6 @@ fn query_text(alloc: Global, ask: Option<Ask>) -> Result<String, Stop> {
     Ok(format!(in alloc; "{bytes} {ask}")?)
 }
 
-fn fault_of(alloc: Global, fault: SpecFault) -> Result<String, Stop> {
-    let text = match fault {
-        SpecFault::Source(fault) => format!(in alloc; "source {}", place_of(fault))?,
-        SpecFault::Ask(fault) => format!(in alloc; "query {}", place_of(fault))?,
-        SpecFault::Template(fault) => format!(in alloc; "template {}", place_of(fault))?,
-        SpecFault::Clause(
-            ProgFault::BadDirective { clause }
-            | ProgFault::NotCallable { clause }
-            | ProgFault::Redefines { clause, .. },
-        ) => format!(in alloc; "clause {clause}")?,
-        SpecFault::Clause(ProgFault::Memory) | SpecFault::Memory => return Err(Stop::Memory),
-    };
-    Ok(text)
-}
-
 /// What a query, a template and a source text are as the options of a new pengine.
 pub(crate) fn spec_of(alloc: Global, library: &Library, row: &Row) -> Result<String, Stop> {
     let options = Options {
@@ -73,6 +58,6 @@ pub(crate) fn spec_of(alloc: Global, library: &Library, row: &Row) -> Result<Str
     };
     match spec(alloc, library, &options) {
         Ok(spec) => query_text(alloc, spec.ask),
-        Err(fault) => fault_of(alloc, fault),
+        Err(fault) => spec_fault(alloc, &fault),
     }
 }

@@ -1,13 +1,13 @@
 // Tables of scripts: what a session's events are, line by line.
 use crate::calls::{command, turned};
+use crate::faults::script_fault;
 use crate::loading::{begun, script};
 use crate::row::Row;
 use crate::stop::Stop;
 use crate::terms::of_bytes;
 use event_core::{Settings, line};
 use lib_text::Library;
-use program::ProgFault;
-use request_text::{Script, ScriptFault, Sent, SpecFault, place_of};
+use request_text::{Script, Sent};
 use session::{Pulled, SendFault, Session};
 use std::alloc::Global;
 
@@ -98,26 +98,6 @@ fn refused(fault: SendFault) -> Stop {
     }
 }
 
-/// Why a script is refused.
-fn refusal(alloc: Global, fault: ScriptFault) -> Result<String, Stop> {
-    let text = match fault {
-        ScriptFault::Utf8 { at } => format!(in alloc; "source refused at byte {at}")?,
-        ScriptFault::Spec(SpecFault::Source(fault)) => {
-            format!(in alloc; "source refused at byte {}", place_of(fault))?
-        }
-        ScriptFault::Spec(
-            SpecFault::Clause(
-                ProgFault::BadDirective { clause }
-                | ProgFault::NotCallable { clause }
-                | ProgFault::Redefines { clause, .. },
-            ),
-        ) => format!(in alloc; "source refused at clause {clause}")?,
-        ScriptFault::Line { line, at } => format!(in alloc; "line {line} refused at byte {at}")?,
-        ScriptFault::Spec(_) | ScriptFault::Memory => return Err(Stop::Memory),
-    };
-    Ok(text)
-}
-
 /// What a script prints, and then calls of its session, one a line.
 pub(crate) fn transcript(
     alloc: Global,
@@ -131,7 +111,7 @@ pub(crate) fn transcript(
         lines,
     } = match script(alloc, library, text) {
         Ok(script) => script,
-        Err(fault) => return refusal(alloc, fault),
+        Err(fault) => return script_fault(alloc, &fault),
     };
     let mut run = Run {
         session: Some(begun(alloc, program, settings)?),
@@ -160,7 +140,7 @@ pub(crate) fn script_of(alloc: Global, library: &Library, text: &str) -> Result<
                 "chunk {chunk}, limit {limit}, destroy {destroys}, {lines} lines"
             )?)
         }
-        Err(fault) => refusal(alloc, fault),
+        Err(fault) => script_fault(alloc, &fault),
     }
 }
 

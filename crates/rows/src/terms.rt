@@ -1,10 +1,8 @@
 // Terms as rows write them, and as they are shown.
 use crate::stop::Stop;
 use op_table::Ops;
-use prolog_lex::LexFault;
 use prolog_read::{ReadFault, read_term};
 use prolog_write::{Mode, WriteStop, argument_text, text};
-use request_text::place_of;
 use std::alloc::Global;
 use term_core::{Name, Pi, ReadTerm, Subst, Term};
 
@@ -61,19 +59,4 @@ pub(crate) fn shown(alloc: Global, term: &Term, mode: Mode) -> Result<String, St
 /// A term's text as an argument, without operators.
 pub(crate) fn argument(alloc: Global, term: &Term) -> Result<String, Stop> {
     written(argument_text(alloc, term, Mode::Canonical, MOST))
-}
-
-/// A fault by its name and its place.
-pub(crate) fn fault_text(alloc: Global, fault: ReadFault) -> Result<String, Stop> {
-    let name = match fault {
-        ReadFault::Lex(LexFault::BadChar { .. }) => "BadChar",
-        ReadFault::Lex(LexFault::Unclosed { .. }) => "Unclosed",
-        ReadFault::Lex(LexFault::FloatToken { .. }) => "FloatToken",
-        ReadFault::Lex(LexFault::IntRange { .. }) => "IntRange",
-        ReadFault::Syntax { .. } => "Syntax",
-        ReadFault::Nesting { .. } => "Nesting",
-        ReadFault::Lex(LexFault::Memory) | ReadFault::Memory => return Err(Stop::Memory),
-    };
-    let at = place_of(fault);
-    Ok(format!(in alloc; "{name} {at}")?)
 }

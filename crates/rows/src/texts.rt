@@ -1,11 +1,12 @@
 // Tables of texts: their tokens, terms and clauses, how terms are written, operators.
-use crate::row::{Row, number};
+use crate::faults::read_fault;
+use crate::row::Row;
 use crate::stop::Stop;
-use crate::terms::{fault_text, shown, term};
-use op_table::{Op, OpFault, OpKind, Ops, iso_infix, iso_prefix};
+use crate::terms::{shown, term};
+use op_table::{Op, OpFault, Ops};
 use prolog_lex::{LexFault, TokenValue, tokens, value};
 use prolog_read::{ReadFault, read_clauses, read_term};
-use prolog_write::{Mode, WriteStop, argument_text, text};
+use prolog_write::Mode;
 use std::alloc::Global;
 use term_core::{ReadTerm, Term};
 
@@ -30,7 +31,7 @@ pub(crate) fn tokens_of(alloc: Global, text: &str) -> Result<String, Stop> {
     let found = match tokens(alloc, text) {
         Ok(found) => found,
         Err(LexFault::Memory) => return Err(Stop::Memory),
-        Err(fault) => return fault_text(alloc, ReadFault::Lex(fault)),
+        Err(fault) => return read_fault(alloc, ReadFault::Lex(fault)),
     };
     let mut shown = String::new(alloc);
     for token in &found {
@@ -60,7 +61,7 @@ pub(crate) fn term_of(alloc: Global, text: &str) -> Result<String, Stop> {
             push_read(alloc, &mut all, &read)?;
             Ok(all)
         }
-        Err(fault) => fault_text(alloc, fault),
+        Err(fault) => read_fault(alloc, fault),
     }
 }
 
@@ -75,7 +76,7 @@ pub(crate) fn clauses_of(alloc: Global, text: &str) -> Result<String, Stop> {
             }
             Ok(all)
         }
-        Err(fault) => fault_text(alloc, fault),
+        Err(fault) => read_fault(alloc, fault),
     }
 }
 
@@ -98,51 +99,10 @@ pub(crate) fn atom_of(alloc: Global, name: &str) -> Result<String, Stop> {
     Ok(format!(in alloc; "{quoted}\t{plain}")?)
 }
 
-/// A term's text of so many bytes at most: as a whole or as an argument, in a mode.
-pub(crate) fn limited_of(alloc: Global, row: &Row) -> Result<String, Stop> {
-    let term = term(alloc, row.field(0))?;
-    let mode = match row.field(2) {
-        "plain" => Mode::Plain,
-        _ => Mode::Quoted,
-    };
-    let limit = number(row.field(3))?;
-    let text = match row.field(1) {
-        "argument" => argument_text(alloc, &term, mode, limit),
-        _ => text(alloc, &term, mode, limit),
-    };
-    match text {
-        Ok(text) => crate::terms::of_bytes(text),
-        Err(WriteStop::TooLong) => Ok(String::from_str(alloc, "too long")?),
-        Err(WriteStop::Memory) => Err(Stop::Memory),
-    }
-}
-
-fn kind_name(kind: OpKind) -> &'static str {
-    match kind {
-        OpKind::Xfx => "xfx",
-        OpKind::Xfy => "xfy",
-        OpKind::Yfx => "yfx",
-        OpKind::Fx => "fx",
-        OpKind::Fy => "fy",
-    }
-}
-
-/// A prefix operator's priority and kind.
-fn prefix_text(alloc: Global, op: Option<Op>) -> Result<String, Stop> {
+fn operator_text(alloc: Global, op: Option<Op>) -> Result<String, Stop> {
     match op {
-        Some(op) => Ok(format!(in alloc; "{} {}", op.priority, kind_name(op.kind))?),
-        None => Ok(String::from_str(alloc, "-")?),
-    }
-}
-
-/// An infix operator's priority and kind, and the greatest priorities of its operands.
-fn infix_text(alloc: Global, op: Option<Op>) -> Result<String, Stop> {
-    match op {
-        Some(op) => {
-            let kind = kind_name(op.kind);
-            Ok(format!(in alloc; "{} {kind} {} {}", op.priority, op.left(), op.right())?)
-        }
-        None => Ok(String::from_str(alloc, "-")?),
+        Some(op) => Ok(format!(in alloc; "{} {:?}", op.priority, op.kind)?),
+        None => Ok(String::from_str(alloc, "none")?),
     }
 }
 
@@ -160,18 +120,13 @@ fn added(ops: &mut Ops, field: &str) -> Result<Option<OpFault>, Stop> {
     Ok(None)
 }
 
-/// The operators of a name after changes, or the fault of a change.
+/// The prefix and the infix operator of a name after changes, or the fault of a change.
 pub(crate) fn operators_of(alloc: Global, row: &Row) -> Result<String, Stop> {
     let mut ops = Ops::iso(alloc)?;
     if let Some(fault) = added(&mut ops, row.field(1))? {
         return Ok(format!(in alloc; "{fault:?}")?);
     }
-    let name = row.field(0);
-    let is_iso = ops.prefix(name) == iso_prefix(name) && ops.infix(name) == iso_infix(name);
-    if row.field(1).is_empty() && !is_iso {
-        return Err(Stop::Malformed);
-    }
-    let prefix = prefix_text(alloc, ops.prefix(name))?;
-    let infix = infix_text(alloc, ops.infix(name))?;
+    let prefix = operator_text(alloc, ops.prefix(row.field(0)))?;
+    let infix = operator_text(alloc, ops.infix(row.field(0)))?;
     Ok(format!(in alloc; "{prefix}\t{infix}")?)
 }
