@@ -9,7 +9,7 @@ use Rattle.session.specs.After as state
 use Rattle.session.specs.After.{State, Pengine, emits, ends, settled, aborted_at, struck, Entry, Pulled, Abort, after_entry}
 use Rattle.session.specs.Answers.{is_present, gives}
 use Rattle.session.specs.Views.{Look, Idle, Running, Out, More, Prompting, Ended, View, IsLook, IsSeen, spec_seen, Enters}
-use Rattle.resolution_tests.specs.Live.{IsLive, IsAlone}
+use Rattle.call_tests.specs.Live.{IsLive, IsAlone}
 
 pub entered : (e : Entry) (v w : View) → Enters e v w → IsLive v → IsLive w
 entered e v w d l = (after_entry (spec_seen v) e l.0, d.seen l.0 l.1)
