@@ -15,9 +15,9 @@ use term_core::Pi;
 /// A row of the table: its class and its goal positions, each with how many arguments are added.
 fn builtin_text(alloc: Global, row: Builtin) -> Result<String, Stop> {
     let mut text = format!(in alloc; "{:?}", row.class)?;
-    for (place, added) in row.metas.iter().enumerate() {
-        if *added >= 0 {
-            write!(text, " {}:{added}", place + 1)?;
+    for (place, added) in (1..9).zip(row.metas) {
+        if added >= 0 {
+            write!(text, " {place}:{added}")?;
         }
     }
     Ok(text)

@@ -36,14 +36,13 @@ impl Row {
 /// The text that a field stands for.
 pub(crate) fn plain(alloc: Global, field: &str) -> Result<String, Stop> {
     let mut text = String::new(alloc);
-    let mut rest = field;
-    while let Some((before, behind)) = rest.split_once('⟨') {
-        let (code, others) = behind.split_once('⟩').ok_or(Stop::Malformed)?;
-        push_part(&mut text, before)?;
+    let mut parts = field.split('⟨');
+    push_part(&mut text, parts.next().unwrap_or(""))?;
+    for part in parts {
+        let (code, behind) = part.split_once('⟩').ok_or(Stop::Malformed)?;
         push_code(&mut text, code)?;
-        rest = others;
+        push_part(&mut text, behind)?;
     }
-    push_part(&mut text, rest)?;
     Ok(text)
 }
 

@@ -68,7 +68,10 @@ impl Run {
             return self.print("ended");
         };
         let mut waiting = session.destroy();
-        while let Some((number, event)) = waiting.next() {
+        for _ in 0..waiting.len() {
+            let Some((number, event)) = waiting.next() else {
+                break;
+            };
             if is_numbered {
                 write!(self.printed, "{number} ")?;
             }

@@ -106,25 +106,21 @@ fn operator_text(alloc: Global, op: Option<Op>) -> Result<String, Stop> {
     }
 }
 
-/// Adds the operators of a field to a table: each is a priority, a kind and a name.
-fn added(ops: &mut Ops, field: &str) -> Result<Option<OpFault>, Stop> {
-    let mut words = field.split_whitespace();
-    while let Some(priority) = words.next() {
-        let priority = priority.parse::<i128>().map_err(|_| Stop::Malformed)?;
-        let kind = words.next().ok_or(Stop::Malformed)?;
-        let name = words.next().ok_or(Stop::Malformed)?;
-        if let Err(fault) = ops.add(priority, kind, name) {
-            return Ok(Some(fault));
-        }
-    }
-    Ok(None)
+/// Makes a change of a table of operators: a priority, a kind and a name.
+fn add(ops: &mut Ops, change: &str) -> Result<Option<OpFault>, Stop> {
+    let (priority, operator) = change.split_once(' ').ok_or(Stop::Malformed)?;
+    let (kind, name) = operator.split_once(' ').ok_or(Stop::Malformed)?;
+    let priority = priority.parse::<i128>().map_err(|_| Stop::Malformed)?;
+    Ok(ops.add(priority, kind, name).err())
 }
 
 /// The prefix and the infix operator of a name after changes, or the fault of a change.
 pub(crate) fn operators_of(alloc: Global, row: &Row) -> Result<String, Stop> {
     let mut ops = Ops::iso(alloc)?;
-    if let Some(fault) = added(&mut ops, row.field(1))? {
-        return Ok(format!(in alloc; "{fault:?}")?);
+    for change in row.field(1).split("; ").filter(|change| !change.is_empty()) {
+        if let Some(fault) = add(&mut ops, change)? {
+            return Ok(format!(in alloc; "{fault:?}")?);
+        }
     }
     let prefix = operator_text(alloc, ops.prefix(row.field(0)))?;
     let infix = operator_text(alloc, ops.infix(row.field(0)))?;
