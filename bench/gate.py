@@ -146,10 +146,10 @@ class Costs:
             self.processor += float(found[2])
         elif found := re.match(r"gate: (\w+) (\w+) (\S+)$", text):
             self.parts[found[1], found[2]] += float(found[3])
-        elif found := re.match(r"(?:fn|struct|enum|trait|impl) (\w+)::(\S+): proved", text):
+        elif found := re.match(r"checked (\w+::\S+), \d+ of \d+", text):
+            self.functions[found[1]] += seconds or 0.0
+        elif found := re.match(r"(?:fn|struct|enum|trait|impl) (\w+)::\S+: proved", text):
             self.proved[found[1]] += 1
-            if seconds:
-                self.functions[f"{found[1]}::{found[2]}"] += seconds
         elif found := re.match(r"rt: must-fail (\w+)/\S+: refused", text):
             self.edits[found[1]] += 1
 
