@@ -46,8 +46,4 @@ fn main(rt: HostRuntime) -> ExitCode {
 }
 
 #[cfg(test)]
-mod goals;
-#[cfg(test)]
-mod sandboxing;
-#[cfg(test)]
 mod tests;

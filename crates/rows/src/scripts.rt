@@ -1,0 +1,161 @@
+// Tables of scripts: what a session's events are, line by line.
+use crate::calls::{command, turned};
+use crate::faults::script_fault;
+use crate::loading::{begun, script};
+use crate::row::Row;
+use crate::stop::Stop;
+use crate::terms::of_bytes;
+use event_core::{Settings, line};
+use lib_text::Library;
+use request_text::{Script, Sent};
+use session::{Pulled, SendFault, Session};
+use std::alloc::Global;
+
+/// A session under way, and what was printed; a session that was destroyed is none.
+#[derive(Drop)]
+struct Run {
+    session: Option<Session>,
+    printed: String,
+}
+
+impl Run {
+    fn print(&mut self, text: &str) -> Result<(), Stop> {
+        self.printed.push_str(text)?;
+        self.printed.push('\n')?;
+        Ok(())
+    }
+
+    /// Runs the session to its rest, and prints its events.
+    fn rest(&mut self, alloc: Global) -> Result<(), Stop> {
+        for _ in 0..u64::MAX {
+            let Some(session) = &mut self.session else {
+                break;
+            };
+            match session.pull() {
+                Pulled::Event(_, event) => {
+                    let text = of_bytes(line(alloc, &event)?)?;
+                    self.print(&text)?;
+                }
+                Pulled::Pending | Pulled::Ended => {
+                    if turned(session, 1000).is_err() {
+                        break;
+                    }
+                }
+            }
+        }
+        Ok(())
+    }
+
+    /// Sends what a line of a script sends.
+    fn send(&mut self, alloc: Global, sent: Sent) -> Result<(), Stop> {
+        let Some(session) = &mut self.session else {
+            return self.print("ended");
+        };
+        if session.ended() {
+            return self.print("ended");
+        }
+        match sent {
+            Sent::Request(request) => session.send(request).map_err(refused)?,
+            Sent::Abort => session.abort(),
+            Sent::Destroy => return self.destroy(alloc, false),
+        }
+        self.rest(alloc)
+    }
+
+    /// Ends the session, and prints the events that wait, with their numbers or without.
+    fn destroy(&mut self, alloc: Global, is_numbered: bool) -> Result<(), Stop> {
+        let Some(session) = self.session.take() else {
+            return self.print("ended");
+        };
+        let mut waiting = session.destroy();
+        for _ in 0..waiting.len() {
+            let Some((number, event)) = waiting.next() else {
+                break;
+            };
+            if is_numbered {
+                write!(self.printed, "{number} ")?;
+            }
+            let text = of_bytes(line(alloc, &event)?)?;
+            self.print(&text)?;
+        }
+        Ok(())
+    }
+
+    /// Makes a call of the session, and prints its answer.
+    fn call(&mut self, alloc: Global, text: &str) -> Result<(), Stop> {
+        if text == "destroy" {
+            return self.destroy(alloc, true);
+        }
+        let Some(session) = &mut self.session else {
+            return Err(Stop::Malformed);
+        };
+        let answer = command(alloc, session, text)?;
+        self.print(&answer)
+    }
+}
+
+fn refused(fault: SendFault) -> Stop {
+    match fault {
+        SendFault::Ended | SendFault::MailboxFull => Stop::Malformed,
+        SendFault::Memory => Stop::Memory,
+    }
+}
+
+/// What a script prints, and then calls of its session, one a line.
+pub(crate) fn transcript(
+    alloc: Global,
+    library: &Library,
+    text: &[u8],
+    calls: &str,
+) -> Result<String, Stop> {
+    let Script {
+        program,
+        settings,
+        lines,
+    } = match script(alloc, library, text) {
+        Ok(script) => script,
+        Err(fault) => return script_fault(alloc, &fault),
+    };
+    let mut run = Run {
+        session: Some(begun(alloc, program, settings)?),
+        printed: String::from_str(alloc, "create\n")?,
+    };
+    for sent in lines.into_vec() {
+        run.send(alloc, sent)?;
+    }
+    for call in calls.lines() {
+        run.call(alloc, call)?;
+    }
+    Ok(run.printed)
+}
+
+/// The settings of a script's pengine and how many lines it sends, or where it is refused.
+pub(crate) fn script_of(alloc: Global, library: &Library, text: &str) -> Result<String, Stop> {
+    match script(alloc, library, text.as_bytes()) {
+        Ok(script) => {
+            let Settings {
+                chunk,
+                limit,
+                destroys,
+            } = script.settings;
+            let lines = script.lines.len();
+            Ok(format!(in alloc;
+                "chunk {chunk}, limit {limit}, destroy {destroys}, {lines} lines"
+            )?)
+        }
+        Err(fault) => script_fault(alloc, &fault),
+    }
+}
+
+/// The line of a goal's answers over the library, 50 at a time, by a template.
+pub(crate) fn answers_of(alloc: Global, library: &Library, row: &Row) -> Result<String, Stop> {
+    let goal = row.field(0);
+    let template = row.field(1);
+    let text = format!(in alloc; "---\nask({goal},[template({template}),chunk(50)])")?;
+    let lines = transcript(alloc, library, text.as_bytes(), "")?;
+    let Some(behind) = lines.strip_prefix("create\n") else {
+        return Ok(lines);
+    };
+    let line = behind.strip_suffix("\ndestroy\n").ok_or(Stop::Malformed)?;
+    Ok(String::from_str(alloc, line)?)
+}

@@ -1,6 +1,0 @@
-use Rattle.std.specs.List.{All}
-use Rattle.store.specs.Cells.{IsCell}
-use Rattle.store_tests.proofs.words.arguments.Given as goal
-
-abbrev pub invariant-loop-i : goal.invariant-loop-i
-invariant-loop-i l = All (IsCell l.store) l.cells.items
