@@ -1,5 +1,5 @@
 -- A command with one rule after another.
-use Rattle.std.proofs.Common.{◌≡◌, ◌∙◌, List, [], ◌∷◌, ◌++◌, Some, ap, append_assoc}
+use Rattle.std.proofs.Common.{◌≡◌, ◌∙◌, List, [], ◌∷◌, Some, ap, append_assoc}
 use Rattle.clap.specs.Words.{App, Rule, new_rule, with_rule}
 use Rattle.cmdline.specs.Words.{Text}
 use Rattle.cmdline.specs.Parsers.{option_named, with_rules}

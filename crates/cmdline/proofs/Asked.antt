@@ -1,14 +1,14 @@
 -- From what the matches tell to the job that the words ask for.
-use Rattle.std.proofs.Common.{◌≡◌, ◌∙◌, false, List, [], ◌∷◌, Option, Some, None, refl, ap, sym, codes}
+use Rattle.std.proofs.Common.{◌≡◌, ◌∙◌, false, List, [], ◌∷◌, Option, Some, refl, ap, sym, codes}
 use Rattle.std.specs.Prelude.{option_and_then}
 use Rattle.std.specs.Str.{bytes_eq}
 use Rattle.clap.specs.Words.{first_value, found_of, is_simple_and_free}
 use Rattle.clap.specs.declared.parser.matches.ArgMatches.{ArgMatches}
 use Rattle.cmdline.specs.declared.verb.Verb.{Verb}
 use Rattle.cmdline.specs.declared.verb.Verb.TheVariants as verb
-use Rattle.cmdline.specs.Words.{Text, Given, given_by, given_for}
+use Rattle.cmdline.specs.Words.{Text, Given, given_for}
 use Rattle.cmdline.specs.Parsers.{Gives, app_for}
-use Rattle.cmdline.specs.Jobs.{Job, Values, operands_of, syntax_of, verb_named, job_by, job_with, job_asked}
+use Rattle.cmdline.specs.Jobs.{Values, operands_of, syntax_of, verb_named, job_by, job_with, job_asked}
 use Rattle.cmdline.proofs.Shapes.{IsPlainSyntax}
 use Rattle.std.proofs.Common.{arith, true}
 

@@ -1,12 +1,11 @@
 -- From the walk to what a parse of the command answers.
-use Rattle.std.proofs.Common.{◌≡◌, ◌∙◌, ◌≤◌, ◌<◌, ◌+◌, ◌&&◌, ◌||◌, ◌==◌, ℕ, Bool, true, false, not, cond, zero, suc, List, [], ◌∷◌, ◌++◌, map, length, Option, Some, None, refl, ap, sym, subst, inl, inr, arith, true≢false, codes, String, string_bytes, is_some}
-use Rattle.std.specs.Prelude.{nat_lt, slice_get, find, option_and_then, encode_utf8}
+use Rattle.std.proofs.Common.{◌≡◌, ◌∙◌, ◌&&◌, ◌||◌, ℕ, Bool, true, false, not, cond, List, [], ◌∷◌, ◌++◌, map, length, Option, Some, None, refl, ap, sym, inl, inr, arith, true≢false, String, string_bytes, is_some}
+use Rattle.std.specs.Prelude.{nat_lt, slice_get, encode_utf8}
 use Rattle.std.specs.List.{fold, list_any}
 use Rattle.std.specs.Str.{bytes_eq, chars, IsUtf8}
 use Rattle.std.specs.Prelude.{⊤}
 use Rattle.std.proofs.lemmas.Str.{IsUtf8-string_bytes, IsUtf8-past_char, encode_ascii, encodes-chars}
 use Rattle.std.proofs.lemmas.Slice.Eq.{bytes_eq-Decides}
-use Rattle.std.proofs.lemmas.Bool.Decides.{nat_tests}
 use Rattle.clap.specs.Walk.{walk, Rule, Row, Walk, idle, settled, nothing_held, has_row, finished, with_default, rows_after}
 use Rattle.clap.specs.Kinds.{Kinds, or_else}
 use Rattle.clap.specs.Lexer.{long_of}
@@ -14,8 +13,8 @@ use Rattle.clap.specs.Faults.{entered_fault, walk_fault, settle_fault, level_fau
 use Rattle.clap.specs.Simple.{App, built, entered, matches_of, names_of, argument_words}
 use Rattle.clap.specs.Takes.{is_given}
 use Rattle.cmdline.specs.Words.{Text, Syntax, Given, any, value_of, is_option, has_option, words_of, begins_with_hyphen, reads, has_no_lone_hyphen, given_by}
-use Rattle.cmdline.proofs.Rows.{Serves, option_rule, place_rule, leaf, row, rows_from, all_known, both}
-use Rattle.cmdline.proofs.Steps.{View, is_dashes, is_plain, is_long, is_short, view, dashes, held, here, same_bytes}
+use Rattle.cmdline.proofs.Rows.{Serves, leaf, rows_from}
+use Rattle.cmdline.proofs.Steps.{View, is_dashes, is_plain, is_long, is_short, view, dashes, held, here}
 use Rattle.cmdline.proofs.Walks.{IsWord, AreWords, no_words, word_and, Ends, total, end_of, read_all}
 
 -- ---- words are text
@@ -195,4 +194,3 @@ lone_both s (v ∷ ws) e = by_view (view v) (lone_both s ws)
 
 pub lone_refused : (s : Syntax) (ws : List Text) → has_no_lone_hyphen ws ≡ false → given_by s ws ≡ None
 lone_refused s ws e = (lone_both s ws e).0 []
-

@@ -5,12 +5,12 @@ use Rattle.std.specs.List.{list_all}
 use Rattle.std.specs.Str.{bytes_eq}
 use Rattle.std.proofs.lemmas.Bool.Decides.{nat_tests}
 use Rattle.std.proofs.lemmas.Slice.Eq.{bytes_eq-Decides}
-use Rattle.clap.specs.Walk.{Rule, Row, arg_by_id, arg_by_index, arg_by_long, arg_by_short, first_of, is_early_multiple}
-use Rattle.clap.specs.Simple.{App, built, filled_from, new_rule, matches_of, is_in_order}
-use Rattle.clap.specs.Faults.{fault_of, is_simple_and_free}
+use Rattle.clap.specs.Walk.{Rule, Row, arg_by_id, arg_by_index, arg_by_long, arg_by_short, first_of}
+use Rattle.clap.specs.Simple.{built, filled_from, new_rule, matches_of}
+use Rattle.clap.specs.Faults.{fault_of}
 use Rattle.cmdline.specs.Words.{Text, Syntax, Given, is_option, given_by, given_for, has_no_lone_hyphen}
 use Rattle.cmdline.specs.Parsers.{option_named, app_for}
-use Rattle.cmdline.proofs.Rows.{Serves, option_rule, place_rule, leaf, row, rows_from, both}
+use Rattle.cmdline.proofs.Rows.{Serves, option_rule, place_rule, row, rows_from, both}
 use Rattle.cmdline.proofs.Steps.{same_bytes}
 use Rattle.cmdline.proofs.Parses.{Quiet, quiet_rows, only, good, bad}
 use Rattle.cmdline.proofs.Walks.{AreWords}

@@ -1,5 +1,5 @@
 -- The commands, as the parser of command lines sees them.
-use Rattle.std.specs.Prelude.{◌≡◌, ◌++◌, true, false, codes, List, map, Option, Some, None}
+use Rattle.std.specs.Prelude.{◌≡◌, ◌++◌, true, false, codes, List, map, Some}
 use Rattle.std.specs.Str.{bytes_eq}
 use Rattle.clap.specs.Words.{App, Rule, new_app, new_rule, first_value, found_of}
 use Rattle.clap.specs.Simple.{on_top}

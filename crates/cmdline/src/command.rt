@@ -1,7 +1,7 @@
 use term_core::App;
 
 /// A command with what its words give it, defaults filled in.
-#[derive(Clone, Copy, Debug, Drop, PartialEq, Eq)]
+#[derive(Clone, Copy, Drop, PartialEq, Eq)]
 pub enum Command<'w> {
     /// `session`: runs the script on standard input.
     Session,

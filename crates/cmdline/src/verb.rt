@@ -2,7 +2,7 @@ ghost use Rattle.std.specs.Prelude.{◌≡◌, map};
 ghost use Rattle.cmdline.specs.Jobs.{verb_named, operands_of, options_of};
 
 /// Which command is named.
-#[derive(Clone, Copy, Debug, Drop, PartialEq, Eq)]
+#[derive(Clone, Copy, Drop)]
 pub enum Verb {
     Session,
     Local,

@@ -1,6 +1,6 @@
-use Rattle.std.proofs.Common.{◌≡◌, ◌∙◌, ◌+◌, List, map, drop, ap, sym}
+use Rattle.std.proofs.Common.{◌∙◌, ◌+◌, map, drop, ap, sym}
 use Rattle.std.proofs.lemmas.List.{at_drop_more}
-use Rattle.clap.specs.Words.{App, app_of, new_rule, rule_of, with_rule}
+use Rattle.clap.specs.Words.{App, app_of, new_rule, with_rule}
 use Rattle.cmdline.specs.Parsers.{with_rules}
 use Rattle.cmdline.proofs.Adding.{with_more}
 use Rattle.cmdline.proofs.arguments.with_operands.Goals as goal

@@ -1,6 +1,6 @@
 use Rattle.std.proofs.Common.{◌≡◌, map, drop}
 use Rattle.clap.specs.Words.{app_of, new_rule}
-use Rattle.cmdline.specs.Parsers.{option_named, with_rules}
+use Rattle.cmdline.specs.Parsers.{with_rules}
 use Rattle.cmdline.proofs.arguments.with_operands.Given as goal
 
 abbrev pub invariant-names : goal.invariant-names

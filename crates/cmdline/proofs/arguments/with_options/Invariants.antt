@@ -1,5 +1,5 @@
 use Rattle.std.proofs.Common.{◌≡◌, map, drop}
-use Rattle.clap.specs.Words.{app_of, new_rule}
+use Rattle.clap.specs.Words.{app_of}
 use Rattle.cmdline.specs.Parsers.{option_named, with_rules}
 use Rattle.cmdline.proofs.arguments.with_options.Given as goal
 

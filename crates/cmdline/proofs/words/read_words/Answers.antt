@@ -1,4 +1,4 @@
-use Rattle.std.proofs.Common.{◌≡◌, ◌∙◌, List, String, Global, map, string_bytes, ap, sym}
+use Rattle.std.proofs.Common.{◌∙◌, List, String, Global, map, string_bytes, ap, sym}
 use Rattle.cmdline.specs.Jobs.{verb_named, job_asked}
 use Rattle.cmdline.proofs.Asked.{asked_with, asked_named}
 use Rattle.cmdline.proofs.words.read_words.Goals as goal
