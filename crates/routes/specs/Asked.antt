@@ -1,0 +1,82 @@
+-- What a request asks. Its faults go in the order NoPath, BadMethod, BadParam, BadId, of parameters the
+-- first by the byte order of their names.
+use Rattle.std.specs.Prelude.{◌≡◌, ◌&&◌, ◌==◌, ℕ, List, [], ◌∷◌, length, Option, Some, None, Result, Ok, Err, codes, if◌then◌else◌, nat_le, bytes_eq}
+use Rattle.std.specs.Str.{is_utf8}
+use Rattle.pengine_id.specs.declared.Id.{Id}
+use Rattle.pengine_id.specs.Layout.{id_read}
+use Rattle.routes.specs.declared.asked.Asked.{Asked}
+use Rattle.routes.specs.declared.asked.Asked.TheVariants.{Send, Pull, Abort, Destroy}
+use Rattle.routes.specs.declared.asked.Format.{Format}
+use Rattle.routes.specs.declared.asked.Format.TheVariants.{Json, JsonS}
+use Rattle.routes.specs.declared.fault.Param.TheVariants as param
+use Rattle.routes.specs.declared.fault.RouteFault.{RouteFault}
+use Rattle.routes.specs.declared.fault.RouteFault.TheVariants.{BadParam, BadId}
+use Rattle.routes.specs.Params.{small_number}
+use Rattle.routes.specs.Paths.{Text}
+
+infixl 10 ◌>>=◌
+abbrev pub ◌>>=◌ : {A B : Type 0} → Result A RouteFault → (A → Result B RouteFault) → Result B RouteFault
+Ok x >>= f = f x
+Err e >>= f = Err e
+
+-- the values of the parameters, by name
+abbrev pub Values : Type 0
+Values = Text → Option Text
+
+abbrev pub format_by : Option Text → Result Format RouteFault
+format_by None = Ok Json
+format_by (Some w) =
+    if bytes_eq w (codes "json") then Ok Json else (if bytes_eq w (codes "json-s") then Ok JsonS else Err (BadParam param.Format))
+
+abbrev pub within_batch : Option ℕ → Result (Option ℕ) RouteFault
+within_batch None = Err (BadParam param.Max)
+within_batch (Some n) = if nat_le 1 n && nat_le n 64 then Ok (Some n) else Err (BadParam param.Max)
+
+-- how many events at most: 1 to 64
+abbrev pub max_by : Option Text → Result (Option ℕ) RouteFault
+max_by None = Ok None
+max_by (Some w) = within_batch (small_number w)
+
+-- the text of the id, which has to be given
+abbrev pub named_by : Option Text → Result Text RouteFault
+named_by None = Err (BadParam param.Id)
+named_by (Some w) = Ok w
+
+abbrev pub or_bad_id : Option Id → Result Id RouteFault
+or_bad_id None = Err BadId
+or_bad_id (Some id) = Ok id
+
+abbrev pub id_by : Text → Result Id RouteFault
+id_by w = or_bad_id (id_read w)
+
+-- a body that is text
+abbrev pub body_by : List ℕ → Result Text RouteFault
+body_by body = if is_utf8 body then Ok body else Err (BadParam param.Body)
+
+abbrev pub send_by : (body : List ℕ) → Values → Result Asked RouteFault
+send_by body value = do
+  text ← body_by body
+  name ← named_by (value (codes "id"))
+  id ← id_by name
+  Ok (Send id text)
+
+abbrev pub pull_by : Values → Result Asked RouteFault
+pull_by value = do
+  format ← format_by (value (codes "format"))
+  name ← named_by (value (codes "id"))
+  max ← max_by (value (codes "max"))
+  id ← id_by name
+  Ok (Pull id format max)
+
+abbrev pub abort_by : Values → Result Asked RouteFault
+abort_by value = do
+  name ← named_by (value (codes "id"))
+  id ← id_by name
+  Ok (Abort id)
+
+abbrev pub destroy_by : Values → Result Asked RouteFault
+destroy_by value = do
+  format ← format_by (value (codes "format"))
+  name ← named_by (value (codes "id"))
+  id ← id_by name
+  Ok (Destroy id format)

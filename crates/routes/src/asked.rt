@@ -1,0 +1,78 @@
+ghost use Rattle.std.specs.Prelude.{◌≡◌, ◌≢◌, IfOk, IfErr, Ok, Err, option_map};
+ghost use Rattle.routes.specs.Asked.{format_by, max_by, named_by, id_by, body_by, send_by, pull_by, abort_by, destroy_by};
+ghost use Rattle.routes.specs.Params.{first_param};
+
+use crate::fault::{Param, RouteFault};
+use crate::params::{param, small_number};
+use pengine_id::Id;
+use std::alloc::Global;
+use std::str;
+use term_core::Text;
+
+/// How terms are written in an answer.
+#[derive(Clone, Copy, Drop, PartialEq, Eq)]
+pub enum Format {
+    /// Terms as JSON values.
+    Json,
+    /// Terms as strings.
+    JsonS,
+}
+
+/// What a request asks.
+#[derive(Drop)]
+pub enum Asked {
+    /// To send a pengine the request that the text writes.
+    Send { id: Id, text: Text },
+    /// To pull the next event, or with `max`, from 1 to 64, up to so many.
+    Pull {
+        id: Id,
+        format: Format,
+        max: Option<u32>,
+    },
+    /// To abort the query that runs.
+    Abort { id: Id },
+    /// To destroy the pengine.
+    Destroy { id: Id, format: Format },
+}
+
+fn format_of(given: Option<&str>) -> Result<Format, RouteFault>
+    ensures { result ≡ format_by (option_map (λ s. s.now) given.entry) }
+{
+    match given {
+        None => Ok(Format::Json),
+        Some("json") => Ok(Format::Json),
+        Some("json-s") => Ok(Format::JsonS),
+        Some(_) => Err(RouteFault::BadParam(Param::Format)),
+    }
+}
+
+fn max_of(given: Option<&str>) -> Result<Option<u32>, RouteFault>
+    ensures { result ≡ max_by (option_map (λ s. s.now) given.entry) }
+{
+    let Some(text) = given else {
+        return Ok(None);
+    };
+    match small_number(text.as_bytes()) {
+        Some(max) if 1 <= max && max <= 64 => Ok(Some(max)),
+        _ => Err(RouteFault::BadParam(Param::Max)),
+    }
+}
+
+fn id_of(text: &str) -> Result<Id, RouteFault>
+    ensures { result ≡ id_by text.now }
+{
+    match Id::read(text) {
+        Some(id) => Ok(id),
+        None => Err(RouteFault::BadId),
+    }
+}
+
+fn name_of(given: Option<&str>) -> Result<&str, RouteFault>
+    ensures ok { IfOk result (λ s. named_by (option_map (λ t. t.now) given.entry) ≡ Ok s.now) }
+    ensures err { IfErr result (λ e. named_by (option_map (λ t. t.now) given.entry) ≡ Err e) }
+{
+    match given {
+        Some(text) => Ok(text),
+        None => Err(RouteFault::BadParam(Param::Id)),
+    }
+}
