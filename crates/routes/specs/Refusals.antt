@@ -71,11 +71,12 @@ abbrev pub param_body : List ℕ → List ℕ
 param_body name = codes "{\"error\":\"bad_param\",\"name\":\"" ++ name ++ codes "\"}"
 
 abbrev pub slot_body : (name : List ℕ) (live : ℕ) → List ℕ
-slot_body name live = codes "{\"application\":\"" ++ name ++ codes "\",\"error\":\"no_slot\",\"live\":" ++ decimal live ++ codes "}"
+slot_body name live =
+    codes "{\"application\":\"" ++ (name ++ (codes "\",\"error\":\"no_slot\",\"live\":" ++ (decimal live ++ codes "}")))
 
 abbrev pub journal_body : (entries bytes : ℕ) → List ℕ
 journal_body entries bytes =
-    codes "{\"bytes\":" ++ decimal bytes ++ codes ",\"entries\":" ++ decimal entries ++ codes ",\"error\":\"journal_full\"}"
+    codes "{\"bytes\":" ++ (decimal bytes ++ (codes ",\"entries\":" ++ (decimal entries ++ codes ",\"error\":\"journal_full\"}")))
 
 abbrev pub body_of : Refusal → List ℕ
 body_of (refusal.Unheard w) = plain_body (unheard_name w)

@@ -10,7 +10,7 @@ use std::str;
 use term_core::Text;
 
 /// How terms are written in an answer.
-#[derive(Clone, Copy, Drop, PartialEq, Eq)]
+#[derive(Clone, Copy, Drop)]
 pub enum Format {
     /// Terms as JSON values.
     Json,

@@ -12,7 +12,7 @@ pub enum Endpoint {
 }
 
 /// The method that a path allows.
-#[derive(Clone, Copy, Drop, PartialEq, Eq)]
+#[derive(Clone, Copy, Drop)]
 pub enum Allowed {
     Get,
     Post,

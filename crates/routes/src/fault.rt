@@ -2,7 +2,7 @@ use crate::endpoint::Allowed;
 use term_core::Memory;
 
 /// What may be wrong in a request: a parameter of its query, a key of its body's object, or its body.
-#[derive(Clone, Copy, Drop, PartialEq, Eq)]
+#[derive(Clone, Copy, Drop)]
 pub enum Param {
     Application,
     Ask,
@@ -20,7 +20,7 @@ pub enum Param {
 
 /// Why a request asks nothing. Of several faults the first in this order is told, and of wrong
 /// parameters the first by the byte order of their names.
-#[derive(Clone, Copy, Drop, PartialEq, Eq)]
+#[derive(Clone, Copy, Drop)]
 pub enum RouteFault {
     /// The path is none of the server's.
     NoPath,

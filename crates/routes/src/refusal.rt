@@ -9,7 +9,7 @@ use std::alloc::Global;
 use term_core::{App, Memory};
 
 /// All that may be refused over HTTP.
-#[derive(Clone, Copy, Drop, PartialEq, Eq)]
+#[derive(Clone, Copy, Drop)]
 pub enum Refusal {
     /// What came is no request.
     Unheard(Why),
