@@ -60,13 +60,16 @@ send_by body value = do
   id ← id_by name
   Ok (Send id text)
 
+abbrev pub pull_from : (format name max : Option Text) → Result Asked RouteFault
+pull_from format name max = do
+  f ← format_by format
+  n ← named_by name
+  m ← max_by max
+  id ← id_by n
+  Ok (Pull id f m)
+
 abbrev pub pull_by : Values → Result Asked RouteFault
-pull_by value = do
-  format ← format_by (value (codes "format"))
-  name ← named_by (value (codes "id"))
-  max ← max_by (value (codes "max"))
-  id ← id_by name
-  Ok (Pull id format max)
+pull_by value = pull_from (value (codes "format")) (value (codes "id")) (value (codes "max"))
 
 abbrev pub abort_by : Values → Result Asked RouteFault
 abort_by value = do

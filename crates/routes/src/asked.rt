@@ -1,5 +1,5 @@
-ghost use Rattle.std.specs.Prelude.{◌≡◌, ◌≢◌, IfOk, IfErr, Ok, Err, option_map};
-ghost use Rattle.routes.specs.Asked.{format_by, max_by, named_by, id_by, body_by, send_by, pull_by, abort_by, destroy_by};
+ghost use Rattle.std.specs.Prelude.{◌≡◌, ◌≢◌, IfOk, IfErr, Ok, Err, option_map, string_bytes};
+ghost use Rattle.routes.specs.Asked.{format_by, max_by, named_by, id_by, body_by, send_by, pull_from, pull_by, abort_by, destroy_by};
 ghost use Rattle.routes.specs.Params.{first_param};
 
 use crate::fault::{Param, RouteFault};
@@ -75,4 +75,40 @@ fn name_of(given: Option<&str>) -> Result<&str, RouteFault>
         Some(text) => Ok(text),
         None => Err(RouteFault::BadParam(Param::Id)),
     }
+}
+
+/// A parameter's value as text.
+fn as_text(given: &Option<String>) -> Option<&str>
+    ensures { option_map (λ s. s.now) result ≡ option_map string_bytes given.now }
+{
+    match given {
+        Some(text) => Some(text.as_str()),
+        None => None,
+    }
+}
+
+/// What a pull asks, of the values of its parameters.
+fn pull_from(
+    format: Option<&str>,
+    name: Option<&str>,
+    max: Option<&str>,
+) -> Result<Asked, RouteFault>
+    ensures { result ≡ pull_from (option_map (λ s. s.now) format.entry) (option_map (λ s. s.now) name.entry) (option_map (λ s. s.now) max.entry) }
+{
+    let format = format_of(format)?;
+    let name = name_of(name)?;
+    let max = max_of(max)?;
+    let id = id_of(name)?;
+    Ok(Asked::Pull { id, format, max })
+}
+
+/// What a pull with this query asks.
+pub fn pull(alloc: Global, query: &[u8]) -> Result<Asked, RouteFault>
+    ensures ok { IfOk result (λ a. pull_by (first_param query.now) ≡ Ok a) }
+    ensures err { IfErr result (λ e. e ≢ RouteFault.Memory → pull_by (first_param query.now) ≡ Err e) }
+{
+    let format = param(alloc, query, "format")?;
+    let name = param(alloc, query, "id")?;
+    let max = param(alloc, query, "max")?;
+    pull_from(as_text(&format), as_text(&name), as_text(&max))
 }
