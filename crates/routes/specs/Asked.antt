@@ -53,12 +53,15 @@ id_by w = or_bad_id (id_read w)
 abbrev pub body_by : List ℕ → Result Text RouteFault
 body_by body = if is_utf8 body then Ok body else Err (BadParam param.Body)
 
-abbrev pub send_by : (body : List ℕ) → Values → Result Asked RouteFault
-send_by body value = do
+abbrev pub send_from : (body : List ℕ) (name : Option Text) → Result Asked RouteFault
+send_from body name = do
   text ← body_by body
-  name ← named_by (value (codes "id"))
-  id ← id_by name
+  n ← named_by name
+  id ← id_by n
   Ok (Send id text)
+
+abbrev pub send_by : (body : List ℕ) → Values → Result Asked RouteFault
+send_by body value = send_from body (value (codes "id"))
 
 abbrev pub pull_from : (format name max : Option Text) → Result Asked RouteFault
 pull_from format name max = do
@@ -71,15 +74,21 @@ pull_from format name max = do
 abbrev pub pull_by : Values → Result Asked RouteFault
 pull_by value = pull_from (value (codes "format")) (value (codes "id")) (value (codes "max"))
 
-abbrev pub abort_by : Values → Result Asked RouteFault
-abort_by value = do
-  name ← named_by (value (codes "id"))
-  id ← id_by name
+abbrev pub abort_from : (name : Option Text) → Result Asked RouteFault
+abort_from name = do
+  n ← named_by name
+  id ← id_by n
   Ok (Abort id)
 
+abbrev pub abort_by : Values → Result Asked RouteFault
+abort_by value = abort_from (value (codes "id"))
+
+abbrev pub destroy_from : (format name : Option Text) → Result Asked RouteFault
+destroy_from format name = do
+  f ← format_by format
+  n ← named_by name
+  id ← id_by n
+  Ok (Destroy id f)
+
 abbrev pub destroy_by : Values → Result Asked RouteFault
-destroy_by value = do
-  format ← format_by (value (codes "format"))
-  name ← named_by (value (codes "id"))
-  id ← id_by name
-  Ok (Destroy id format)
+destroy_by value = destroy_from (value (codes "format")) (value (codes "id"))
