@@ -10,9 +10,10 @@ use Rattle.routes.specs.declared.asked.Format.{Format}
 use Rattle.routes.specs.declared.asked.Format.TheVariants.{Json, JsonS}
 use Rattle.routes.specs.declared.fault.Param.TheVariants as param
 use Rattle.routes.specs.declared.fault.RouteFault.{RouteFault}
-use Rattle.routes.specs.declared.fault.RouteFault.TheVariants.{BadParam, BadId}
+use Rattle.routes.specs.declared.fault.RouteFault.TheVariants.{NoPath, BadMethod, BadParam, BadId}
+use Rattle.routes.specs.declared.endpoint.Endpoint.{Endpoint}
 use Rattle.routes.specs.Params.{small_number}
-use Rattle.routes.specs.Paths.{Text}
+use Rattle.routes.specs.Paths.{Text, endpoint_of, allowed, method_name}
 
 infixl 10 ◌>>=◌
 abbrev pub ◌>>=◌ : {A B : Type 0} → Result A RouteFault → (A → Result B RouteFault) → Result B RouteFault
@@ -92,3 +93,11 @@ destroy_from format name = do
 
 abbrev pub destroy_by : Values → Result Asked RouteFault
 destroy_by value = destroy_from (value (codes "format")) (value (codes "id"))
+
+abbrev pub by_method : (method : Text) → Option Endpoint → Result Endpoint RouteFault
+by_method method None = Err NoPath
+by_method method (Some e) = if bytes_eq method (method_name (allowed e)) then Ok e else Err (BadMethod (allowed e))
+
+-- the endpoint of a path, by its one method
+abbrev pub endpoint_by : (method path : Text) → Result Endpoint RouteFault
+endpoint_by method path = by_method method (endpoint_of path)

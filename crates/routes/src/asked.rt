@@ -22,7 +22,10 @@ pub enum Format {
 #[derive(Drop)]
 pub enum Asked {
     /// To send a pengine the request that the text writes.
-    Send { id: Id, text: Text },
+    Send {
+        id: Id,
+        text: Text,
+    },
     /// To pull the next event, or with `max`, from 1 to 64, up to so many.
     Pull {
         id: Id,
@@ -30,9 +33,14 @@ pub enum Asked {
         max: Option<u32>,
     },
     /// To abort the query that runs.
-    Abort { id: Id },
+    Abort {
+        id: Id,
+    },
     /// To destroy the pengine.
-    Destroy { id: Id, format: Format },
+    Destroy {
+        id: Id,
+        format: Format,
+    },
 }
 
 fn format_of(given: Option<&str>) -> Result<Format, RouteFault>

@@ -1,6 +1,7 @@
 // The parameters of a query.
 ghost use Rattle.std.specs.Prelude.{◌≡◌, IfOk, IfSome, ◌<◌, option_map, string_bytes};
 ghost use Rattle.routes.specs.Params.{first_param, text_of, digit, small_number};
+ghost use Rattle.routes.specs.Paths.{path_of, query_of};
 
 use form_urlencoded::{decode, raw_pairs};
 use std::alloc::Global;
@@ -49,5 +50,16 @@ pub fn small_number(digits: &[u8]) -> Option<u32>
             Some(10 * ten + one)
         }
         _ => None,
+    }
+}
+
+/// A target's path, and its query, which is empty where there is none.
+pub fn cut_target(target: &str) -> (&str, &str)
+    ensures path { result.0.now ≡ path_of target.now }
+    ensures query { result.1.now ≡ query_of target.now }
+{
+    match target.split_once('?') {
+        Some(parts) => parts,
+        None => (target, ""),
     }
 }

@@ -4,6 +4,7 @@ ghost use Rattle.matchit.specs.Seek.{first};
 ghost use Rattle.routes.specs.Paths.{endpoint_of};
 
 use crate::endpoint::Endpoint;
+use crate::fault::RouteFault;
 use matchit::{InsertError, Router};
 use std::alloc::Global;
 use term_core::Memory;
@@ -28,6 +29,8 @@ fn router(alloc: Global) -> Result<Router<Endpoint>, InsertError>
 }
 
 impl Routes {
+    ghost use Rattle.routes.specs.Asked.{endpoint_by};
+
     /// The paths. `Err` is want of memory.
     pub fn new(alloc: Global) -> Result<Routes, Memory> {
         match router(alloc) {
@@ -43,6 +46,22 @@ impl Routes {
         match self.router.at(path) {
             Ok(found) => Some(*found.value),
             Err(_) => None,
+        }
+    }
+
+    /// What a path is for by this method; `NoPath` where it is none of the server's, else `BadMethod`
+    /// where it is for another method.
+    pub fn endpoint(&self, method: &str, path: &str) -> Result<Endpoint, RouteFault>
+        ensures { result ≡ endpoint_by method.now path.now }
+    {
+        let Some(endpoint) = self.at(path) else {
+            return Err(RouteFault::NoPath);
+        };
+        let allow = endpoint.allowed();
+        if method == allow.name() {
+            Ok(endpoint)
+        } else {
+            Err(RouteFault::BadMethod { allow })
         }
     }
 }
