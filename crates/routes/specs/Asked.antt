@@ -1,6 +1,6 @@
 -- What a request asks. Its faults go in the order NoPath, BadMethod, BadParam, BadId, of parameters the
 -- first by the byte order of their names.
-use Rattle.std.specs.Prelude.{◌≡◌, ◌&&◌, ◌==◌, ℕ, List, [], ◌∷◌, length, Option, Some, None, Result, Ok, Err, codes, if◌then◌else◌, nat_le, bytes_eq}
+use Rattle.std.specs.Prelude.{◌&&◌, ℕ, List, Option, Some, None, Result, Ok, Err, codes, if◌then◌else◌, nat_le, bytes_eq}
 use Rattle.std.specs.Str.{is_utf8}
 use Rattle.pengine_id.specs.declared.Id.{Id}
 use Rattle.pengine_id.specs.Layout.{id_read}

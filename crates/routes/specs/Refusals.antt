@@ -1,6 +1,5 @@
 -- What a refusal is answered: a status, and a JSON object with its keys in byte order (RFC 8259).
 use Rattle.std.specs.Prelude.{ℕ, List, ◌++◌, Option, Some, None, codes, decimal}
-use Rattle.term_core.specs.declared.app.App.{App}
 use Rattle.term_core.specs.Apps.{app_name}
 use Rattle.http_wire.specs.declared.message.Why.{Why}
 use Rattle.http_wire.specs.declared.message.Why.TheVariants as why
