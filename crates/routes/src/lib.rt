@@ -14,3 +14,6 @@ pub use endpoint::{Allowed, Endpoint};
 pub use fault::{Param, RouteFault};
 pub use refusal::Refusal;
 pub use router::Routes;
+
+#[cfg(test)]
+mod tests;
