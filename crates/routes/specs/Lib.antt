@@ -1,0 +1,4 @@
+pub mod Paths
+pub mod Params
+pub mod Asked
+pub mod Refusals
