@@ -37,7 +37,7 @@ impl Run {
                     self.print(&text)?;
                 }
                 Pulled::Pending | Pulled::Ended => {
-                    if turned(session, 1000).is_err() {
+                    if turned(session, 1000).is_none() {
                         break;
                     }
                 }
