@@ -1,5 +1,5 @@
 // Calls of a session, one by one.
-ghost use Rattle.std.specs.Prelude.{◌≡◌, ◌<◌, None, IfOk};
+ghost use Rattle.std.specs.Prelude.{◌≡◌, ◌<◌, None, IfSome};
 ghost use Rattle.session.specs.Views.{IsTurnOf};
 ghost use Rattle.rows.specs.Turns.{IsOwn};
 
@@ -11,16 +11,14 @@ use request_text::{Sent, read_request};
 use session::{Given, Pulled, SendFault, Session, Took, Turn};
 use std::alloc::Global;
 
-/// The turn of the query that runs, which has not gone; or why there is none.
-fn taken(session: &mut Session) -> Result<Turn, &'static str>
-    ensures own { IfOk result (IsOwn session.new) }
-    ensures fresh { IfOk result (λ t. t.gone ≡ None) }
+/// The turn of the query that runs, where there is one; it has not gone.
+fn taken(session: &mut Session) -> Option<Turn>
+    ensures own { IfSome result (IsOwn session.new) }
+    ensures fresh { IfSome result (λ t. t.gone ≡ None) }
 {
     match session.take() {
-        Took::Turn(turn) => Ok(turn),
-        Took::Out => Err("out"),
-        Took::Idle => Err("idle"),
-        Took::QueueFull => Err("queue full"),
+        Took::Turn(turn) => Some(turn),
+        Took::Out | Took::Idle | Took::QueueFull => None,
     }
 }
 
@@ -41,15 +39,15 @@ pub(crate) struct TurnOutcome {
     given: Given,
 }
 
-/// Takes a turn, lets it go so many steps, and gives it back; or tells why there is none.
-pub(crate) fn turned(session: &mut Session, budget: u64) -> Result<TurnOutcome, &'static str>
+/// Takes a turn, where there is one, lets it go so many steps, and gives it back.
+pub(crate) fn turned(session: &mut Session, budget: u64) -> Option<TurnOutcome>
     requires { 0 < budget }
 {
     let mut turn = taken(session)?;
     let query = turn.query();
     let made = ran(session, &mut turn, budget);
     let given = session.give(turn);
-    Ok(TurnOutcome { query, made, given })
+    Some(TurnOutcome { query, made, given })
 }
 
 fn run(alloc: Global, session: &mut Session, budget: u64) -> Result<String, Stop> {
@@ -57,11 +55,11 @@ fn run(alloc: Global, session: &mut Session, budget: u64) -> Result<String, Stop
         return Err(Stop::Malformed);
     }
     match turned(session, budget) {
-        Ok(TurnOutcome { query, made, given }) => {
+        Some(TurnOutcome { query, made, given }) => {
             let Made { steps, events } = made;
             Ok(format!(in alloc; "query {query}: {steps} steps, {events} events, {given:?}")?)
         }
-        Err(word) => Ok(String::from_str(alloc, word)?),
+        None => Ok(String::from_str(alloc, "no turn")?),
     }
 }
 
@@ -89,9 +87,11 @@ fn send(alloc: Global, session: &mut Session, text: &str) -> Result<&'static str
 }
 
 fn take(session: &mut Session) -> &'static str {
-    match taken(session) {
-        Ok(_) => "turn",
-        Err(word) => word,
+    match session.take() {
+        Took::Turn(_) => "turn",
+        Took::Out => "out",
+        Took::Idle => "idle",
+        Took::QueueFull => "queue full",
     }
 }
 

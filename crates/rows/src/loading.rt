@@ -18,7 +18,7 @@ fn clauses(alloc: Global, text: &str) -> Result<Vec<ReadTerm>, Stop>
     ensures { IfOk result (λ v. AreNumbered v.items) }
 {
     match read_clauses(alloc, text) {
-        Ok(clauses) => Ok(clauses),
+        Ok(terms) => Ok(terms),
         Err(ReadFault::Memory) => Err(Stop::Memory),
         Err(_) => Err(Stop::Malformed),
     }

@@ -37,7 +37,7 @@ impl Run {
                     self.print(&text)?;
                 }
                 Pulled::Pending | Pulled::Ended => {
-                    if turned(session, 1000).is_err() {
+                    if turned(session, 1000).is_none() {
                         break;
                     }
                 }
@@ -85,6 +85,9 @@ impl Run {
     fn call(&mut self, alloc: Global, text: &str) -> Result<(), Stop> {
         if text == "destroy" {
             return self.destroy(alloc, true);
+        }
+        if text == "rest" {
+            return self.rest(alloc);
         }
         let Some(session) = &mut self.session else {
             return Err(Stop::Malformed);
@@ -158,4 +161,17 @@ pub(crate) fn answers_of(alloc: Global, library: &Library, row: &Row) -> Result<
     };
     let line = behind.strip_suffix("\ndestroy\n").ok_or(Stop::Malformed)?;
     Ok(String::from_str(alloc, line)?)
+}
+
+/// What a turn of a query does over a source and the library, and the query's events up to its rest.
+pub(crate) fn steps_of(alloc: Global, library: &Library, row: &Row) -> Result<String, Stop> {
+    let source = row.field(0);
+    let goal = row.field(1);
+    let text = format!(in alloc; "{source}\n---\ncreate([destroy(false)])\n")?;
+    let calls = format!(in alloc; "send ask(({goal}))\nrun 10000\nrest")?;
+    let lines = transcript(alloc, library, text.as_bytes(), &calls)?;
+    match lines.strip_prefix("create\nsent\nquery 1: ") {
+        Some(behind) => Ok(String::from_str(alloc, behind.trim_end())?),
+        None => Ok(lines),
+    }
 }

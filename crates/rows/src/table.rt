@@ -3,14 +3,14 @@ use crate::cells::{bag_of, measures_of, primitive_of, stored_of, unified_of, val
 use crate::programs::{builtin_of, library_of, predicate_of, program_of, verdict_of};
 use crate::requests::{request_of, spec_of};
 use crate::row::Row;
-use crate::scripts::{answers_of, script_of};
+use crate::scripts::{answers_of, script_of, steps_of};
 use crate::stop::Stop;
 use crate::texts::{atom_of, clauses_of, operators_of, term_of, tokens_of, written_of};
 use lib_text::Library;
 use std::alloc::Global;
 
 /// The names of the tables, and how many fields of a row are given; what follows is to come of them.
-pub(crate) const TABLES: [(&str, u32); 21] = [
+pub(crate) const TABLES: [(&str, u32); 22] = [
     ("answers", 2),
     ("atoms", 1),
     ("bags", 2),
@@ -25,6 +25,7 @@ pub(crate) const TABLES: [(&str, u32); 21] = [
     ("requests", 1),
     ("scripts", 1),
     ("specs", 3),
+    ("steps", 2),
     ("stored", 3),
     ("terms", 1),
     ("tokens", 1),
@@ -52,6 +53,7 @@ fn outcome(alloc: Global, library: &Library, table: &str, row: &Row) -> Result<S
         "requests" => request_of(alloc, first),
         "scripts" => script_of(alloc, library, first),
         "specs" => spec_of(alloc, library, row),
+        "steps" => steps_of(alloc, library, row),
         "stored" => stored_of(alloc, row),
         "terms" => term_of(alloc, first),
         "tokens" => tokens_of(alloc, first),
