@@ -1,4 +1,0 @@
-pub mod Paths
-pub mod Params
-pub mod Asked
-pub mod Refusals
