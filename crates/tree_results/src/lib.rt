@@ -11,5 +11,5 @@ pub use kinds::{is_atom, is_compound, is_either_variable, is_integer, is_variabl
 pub use lists::{
     bound, is_empty, is_list, list_of, list_parts, may_be_list, needed_list, needed_values,
 };
-pub use results::{Offer, Outcome, ball, fails, one, tested, unifies};
+pub use results::{Offer, Outcome, ball, fails, one, tested, unifies, unknown};
 pub use variables::{further, new_variables, variable_terms};

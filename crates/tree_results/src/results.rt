@@ -1,7 +1,7 @@
 // What a primitive gives, made.
 ghost use Rattle.std.specs.Prelude.{◌≡◌, [], ◌∷◌, List as list, IfOk};
 ghost use Rattle.term_core.specs.Tree.{Tree};
-ghost use Rattle.builtin_table.specs.Outcomes.{tested as tested_of, fails as fails_of, ball as ball_of};
+ghost use Rattle.builtin_table.specs.Outcomes.{Unknown, tested as tested_of, fails as fails_of, ball as ball_of};
 ghost use Rattle.tree_results.specs.Outcomes.{outcome_of};
 ghost use Rattle.tree_results.specs.Placed.{results_for, equal_at};
 
@@ -53,6 +53,14 @@ pub fn fails() -> Outcome
     ensures { (ts : list Tree) → outcome_of ts result ≡ fails_of }
 {
     Outcome::Result(None)
+}
+
+/// There is no such primitive.
+#[tactic(auto, unfolding(crate::specs::Outcomes::outcome_of))]
+pub fn unknown() -> Outcome
+    ensures { (ts : list Tree) → outcome_of ts result ≡ Unknown }
+{
+    Outcome::Unknown
 }
 
 /// A test that is passed or fails.
