@@ -1,7 +1,6 @@
 -- Atoms as texts (ISO/IEC 13211-1, 8.16): their characters, which are counted from 0.
-use Rattle.std.specs.Prelude.{ℕ, suc, ◌-◌, ℤ, pos, negsuc, Bool, true, false, ◌&&◌, ◌||◌, if◌then◌else◌, List, [], ◌∷◌, ◌++◌, map, filter, length, take, drop, Option, Some, None, Result, Ok, Err, codes, bytes_eq}
-use Rattle.std.specs.List.{find, flat_map, list_all, range_with_len}
-use Rattle.std.specs.Ordering.{int_eq}
+use Rattle.std.specs.Prelude.{ℕ, suc, ◌-◌, ℤ, pos, negsuc, ◌&&◌, ◌||◌, if◌then◌else◌, List, [], ◌∷◌, ◌++◌, map, length, take, drop, Option, Some, None, Result, Ok, Err, codes}
+use Rattle.std.specs.List.{find, flat_map, range_with_len}
 use Rattle.std.specs.Str.{chars, encode_utf8_all}
 use Rattle.std.specs.Fmt.{signed_decimal}
 use lib.Utf8.{scalar}
@@ -118,17 +117,6 @@ atom_spelled k a l = unifies l (character_terms k (text_of a))
 
 -- ---- parts of a text
 
--- whether an argument may be an integer or an atom: a variable may, and another argument has to be it
-abbrev pub may_be : (argument found : Tree) → Bool
-may_be (variable v) u = true
-may_be (integer y) (integer z) = int_eq y z
-may_be (atom f) (atom g) = bytes_eq f g
-may_be t u = false
-
--- A result is open where each argument may be what it has. One that isn't is left out: its pairs don't unify.
-abbrev pub is_open : Offer → Bool
-is_open o = list_all (λ p. may_be p.0 p.1) o.pairs
-
 -- atom_concat(A, B, C)
 abbrev pub concat_ball : Tree → Outcome
 concat_ball e = ball (codes "atom_concat") 3 e
@@ -145,7 +133,7 @@ abbrev pub concatenation : (a b : Tree) → Tree
 concatenation a b = atom (text_of a ++ text_of b)
 
 abbrev pub concat_found : (a b c : Tree) → Outcome
-concat_found a b c = if is_variable a || is_variable b then Offers (filter is_open (splits_from a b (characters_of c) 0)) else unifies c (concatenation a b)
+concat_found a b c = if is_variable a || is_variable b then Offers (splits_from a b (characters_of c) 0) else unifies c (concatenation a b)
 
 abbrev pub atom_concat : Tree → Tree → Tree → Outcome
 atom_concat a b c =
@@ -178,5 +166,5 @@ sub_ball e = ball (codes "sub_atom") 5 e
 
 abbrev pub sub_atom : Tree → PartTerms → Outcome
 sub_atom (variable v) ts = sub_ball instantiation_error
-sub_atom (atom f) ts = Offers (filter is_open (parts_from ts (chars f) 0))
+sub_atom (atom f) ts = Offers (parts_from ts (chars f) 0)
 sub_atom a ts = sub_ball (type_error (codes "atom") a)

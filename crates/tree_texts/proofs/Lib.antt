@@ -1,2 +1,3 @@
 pub mod Joined
-pub mod Overlapping
+pub mod NextPart
+pub mod Placing
