@@ -25,12 +25,14 @@ use tree_values::{assign, compare_values, divmod, plus};
 ///
 /// `Memory` also where no number is left for a new variable, and where a term would have more than
 /// `term_core::MAX_NODES` nodes.
+#[tactic(auto, using(crate::proofs::HavePlaces::results_are))]
 pub fn call(alloc: Global, name: &str, args: &[Term], next: u64) -> Result<Outcome, Memory>
     ensures { IfOk result (λ o. outcome_of o ≡ primitive name.now args.now next) }
 {
     match placed_call(alloc, name, args, next)? {
         PlacedOutcome::Offers(results) => {
-            Ok(Outcome::Offers(Offers::over(copies(alloc, args)?, results)))
+            let arguments = copies(alloc, args)?;
+            Ok(Outcome::Offers(Offers::over(arguments, results)))
         }
         PlacedOutcome::Ball(ball) => Ok(Outcome::Ball(ball)),
         PlacedOutcome::Unknown => Ok(Outcome::Unknown),

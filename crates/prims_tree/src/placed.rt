@@ -89,7 +89,8 @@ impl PlacedOffers {
         }
     }
 
-    // Whether each place is that of one of so many arguments.
+    // Whether each place is that of one of so many arguments, as far as that is seen at once.
+    #[tactic(auto, using(crate::proofs::HavePlaces::splits_have_places, crate::proofs::HavePlaces::parts_have_places))]
     pub(crate) fn has_places(&self, count: u32) -> bool
         ensures { result ≡ true → list_all (has_places_of count) self.now ≡ true }
     {

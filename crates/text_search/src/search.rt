@@ -15,6 +15,7 @@ pub(crate) struct Window {
 }
 
 // How many characters from a place on are those that the text begins with, where so many are known to be.
+#[tactic(auto, using(crate::proofs::Overlapping::one_more))]
 fn extended(text: &[char], place: usize, known: usize) -> usize
     requires { BeginsAgain text.now place known }
     ensures { Overlaps text.now place result }
@@ -27,6 +28,7 @@ fn extended(text: &[char], place: usize, known: usize) -> usize
 }
 
 // The same, by what is known of the places before.
+#[tactic(auto, using(crate::proofs::Overlapping::known_again, crate::proofs::Overlapping::nothing_again))]
 fn overlap_at(text: &[char], lengths: &[usize], window: Window, place: usize) -> usize
     requires place { place ≤ length text.now }
     requires count { length lengths.now ≡ place }

@@ -23,3 +23,6 @@ results_within n (r ∷ rs) h =
 pub results_are : (ts : List Tree) (rs : List Result) → list_all (has_places (length ts)) rs ≡ true → Offers (map (for_arguments ts) rs) ≡ results_for ts rs
 results_are ts rs h =
     ap (λ (b : Bool). if b then Offers (map (for_arguments ts) rs) else Unknown) (sym h)
+
+pub results_for_same : (ts us : List Tree) (rs ns : List Result) → us ≡ ts → ns ≡ rs → list_all (has_places (length us)) rs ≡ true → Offers (map (for_arguments ts) ns) ≡ results_for us rs
+results_for_same ts us rs ns e d h = (λ i. Offers (map (for_arguments (sym e i)) (d i))) ∙ results_are us rs h

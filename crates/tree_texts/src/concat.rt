@@ -2,8 +2,9 @@
 ghost use Rattle.std.specs.Prelude.{◌≡◌, [], ◌∷◌, List as list, Some, None, IfOk, MatchOption};
 ghost use Rattle.std.specs.List.{find};
 ghost use Rattle.term_core.specs.Tree.{Tree};
-ghost use Rattle.builtin_table.specs.Primitives.{is_compound as is_compound_tree};
-ghost use Rattle.builtin_table.specs.Texts.{PartTerms, sub_ball as sub_ball_of, sub_atom as sub_atom_of, concat_ball as concat_ball_of, concatenation as concatenation_of, concat_found as concat_found_of, atom_concat as atom_concat_of};
+ghost use Rattle.std.specs.Str.{chars};
+ghost use Rattle.builtin_table.specs.Primitives.{Offers, is_compound as is_compound_tree};
+ghost use Rattle.builtin_table.specs.Texts.{PartTerms, splits_from, parts_from, sub_ball as sub_ball_of, sub_atom as sub_atom_of, concat_ball as concat_ball_of, concatenation as concatenation_of, concat_found as concat_found_of, atom_concat as atom_concat_of};
 ghost use Rattle.tree_results.specs.Outcomes.{outcome_of};
 ghost use Rattle.tree_texts.specs.Parts.{text_outcome_of};
 
@@ -49,6 +50,28 @@ fn concatenation(alloc: Global, first: &Term, second: &Term) -> Result<Term, Mem
     Term::atom(alloc, text.as_str())
 }
 
+// The two parts of a text, for the first two of three arguments.
+fn split(alloc: Global, text: &str) -> Result<TextOutcome, Memory>
+    ensures { IfOk result (λ o. (a b c : Tree) →
+        text_outcome_of (a ∷ b ∷ c ∷ []) o ≡ Offers (splits_from a b (chars text.now) 0)) }
+{
+    let characters = characters(alloc, text)?;
+    Ok(TextOutcome::Splits(Splits { characters, at: 0 }))
+}
+
+// The parts of a text, for the last four of five arguments.
+fn parts(alloc: Global, text: &str) -> Result<TextOutcome, Memory>
+    ensures { IfOk result (λ o. (a b l r s : Tree) → text_outcome_of (a ∷ b ∷ l ∷ r ∷ s ∷ []) o
+        ≡ Offers (parts_from (record { before = b; len = l; after = r; part = s }) (chars text.now) 0)) }
+{
+    let characters = characters(alloc, text)?;
+    Ok(TextOutcome::Parts(Parts {
+        characters,
+        start: 0,
+        len: 0,
+    }))
+}
+
 // atom_concat(A, B, C) of terms that are no compounds.
 fn concat_found(
     alloc: Global,
@@ -60,9 +83,8 @@ fn concat_found(
         ≡ concat_found_of first.now second.now whole.now) }
 {
     if is_either_variable(first, second) {
-        let text = text_of(alloc, whole)?;
-        let characters = characters(alloc, text.as_str())?;
-        return Ok(TextOutcome::Splits(Splits { characters, at: 0 }));
+        let outcome = split(alloc, text_of(alloc, whole)?.as_str())?;
+        return Ok(outcome);
     }
     let found = concatenation(alloc, first, second)?;
     let outcome = unifies(alloc, 2, found)?;
@@ -109,12 +131,8 @@ pub fn sub_atom(alloc: Global, atom: &Term) -> Result<TextOutcome, Memory>
             Ok(TextOutcome::Outcome(outcome))
         }
         Node::Atom(name) => {
-            let characters = characters(alloc, name.as_str())?;
-            Ok(TextOutcome::Parts(Parts {
-                characters,
-                start: 0,
-                len: 0,
-            }))
+            let outcome = parts(alloc, name.as_str())?;
+            Ok(outcome)
         }
         Node::Int(_) | Node::Comp(_, _) => {
             let formal = type_error(alloc, "atom", atom.copied(alloc)?)?;
