@@ -49,15 +49,20 @@ pub fn placed_call(
     ensures outcome { IfOk result (λ o. placed_outcome_of args.now o ≡ primitive name.now args.now next) }
     ensures places { IfOk result (OutcomeHasPlaces (length args.now)) }
 {
-    let count = u32::try_from(args.len()).map_err(|_| Memory)?;
-    let outcome = by_arity(alloc, name, args, next)?;
-    if let PlacedOutcome::Offers(results) = &outcome {
-        // no primitive has a place that isn't one of its arguments
-        if !results.has_places(count) {
-            return Err(Memory);
+    let Ok(count) = u32::try_from(args.len()) else {
+        return Err(Memory);
+    };
+    match by_arity(alloc, name, args, next)? {
+        PlacedOutcome::Offers(results) => {
+            // no primitive has a place that isn't one of its arguments
+            if !results.has_places(count) {
+                return Err(Memory);
+            }
+            Ok(PlacedOutcome::Offers(results))
         }
+        PlacedOutcome::Ball(ball) => Ok(PlacedOutcome::Ball(ball)),
+        PlacedOutcome::Unknown => Ok(PlacedOutcome::Unknown),
     }
-    Ok(outcome)
 }
 
 // Copies of these terms.

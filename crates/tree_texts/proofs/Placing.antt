@@ -53,10 +53,13 @@ module _ (a : Tree) (ts : PartTerms) (cs : List ℕ) where
       ∙ (λ i. the_parts k (range_with_len 0 (suc (length cs) - k - 0)) i ++ the_places ks i)
 
   -- the parts from the first place on
-  all_placed : placed_at cs 0 0 ++ placed_from cs 1 ≡ flat_map (λ k. placed_at cs k 0) (range_with_len 0 (suc (length cs)))
-  all_placed = refl
+  all_placed : placed_at cs 0 0 ++ placed_from cs (0 + 1) ≡ flat_map (λ k. placed_at cs k 0) (range_with_len 0 (suc (length cs) - 0))
+  all_placed =
+      ap (λ (n : ℕ). placed_at cs 0 0 ++ flat_map (λ k. placed_at cs k 0) (range_with_len 1 n)) (let g : suc (length cs) - 1 ≡ length cs = omega arith in g)
+      ∙ ap (λ (n : ℕ). flat_map (λ k. placed_at cs k 0) (range_with_len 0 n)) (let g : suc (length cs) ≡ suc (length cs) - 0 = omega arith in g)
 
   pub parts_placed : results_for five (placed_at cs 0 0 ++ placed_from cs (0 + 1)) ≡ Offers (parts_from ts cs 0)
   parts_placed =
-      with_places five (flat_map (λ k. placed_at cs k 0) (range_with_len 0 (suc (length cs)))) _ refl (each_place (range_with_len 0 (suc (length cs))))
-      ∙ ap Offers (the_places (range_with_len 0 (suc (length cs))))
+      ap (results_for five) all_placed
+      ∙ with_places five (flat_map (λ k. placed_at cs k 0) (range_with_len 0 (suc (length cs) - 0))) _ refl (each_place (range_with_len 0 (suc (length cs) - 0)))
+      ∙ ap Offers (the_places (range_with_len 0 (suc (length cs) - 0)))
