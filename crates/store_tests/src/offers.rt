@@ -22,14 +22,9 @@ fn call_offers(alloc: Global) -> Result<bool, Fail> {
 fn results_are_placed(alloc: Global) -> Result<bool, Fail> {
     let mut store = Store::new(alloc);
     let terms = vec![in alloc; Term::atom(alloc, "abc")?, Term::var(alloc, 0)?]?;
-    match prims_tree::call(alloc, "atom_length", &terms, 0)? {
-        prims_tree::Outcome::Offers(results) => {
-            come(
-                alloc,
-                &mut store,
-                Offers::new(alloc, terms, results),
-                LENGTH,
-            )
+    match prims_tree::placed_call(alloc, "atom_length", &terms, 0)? {
+        prims_tree::PlacedOutcome::Offers(results) => {
+            come(alloc, &mut store, Offers::new(alloc, results), LENGTH)
         }
         _ => Ok(false),
     }
