@@ -1,6 +1,0 @@
-//! The places at which a text occurs in another.
-#![tactic(auto)]
-
-mod search;
-
-pub use search::occurrences;
