@@ -1,5 +1,5 @@
 -- What a goal runs over: a program that is loaded for an application.
-use Rattle.std.specs.Prelude.{◌≡◌, ℕ, zero, suc, ℤ, List, [], refl}
+use Rattle.std.specs.Prelude.{◌≡◌, ℕ, zero, suc, ℤ, List, refl}
 use Rattle.std.specs.Coded.{Coded, code_by, coded×, coded_ℕ, coded_ℤ, coded_list}
 use Rattle.term_core.specs.declared.app.App.{App}
 use Rattle.term_core.specs.declared.app.App.TheVariants.{Sandbox, School, Numbers}
@@ -30,7 +30,7 @@ numbered_app zero = Sandbox
 numbered_app (suc zero) = School
 numbered_app (suc (suc n)) = Numbers
 
-app_back : (a : App) → numbered_app (app_number a) ≡ a
+pub app_back : (a : App) → numbered_app (app_number a) ≡ a
 app_back Sandbox = refl
 app_back School = refl
 app_back Numbers = refl
