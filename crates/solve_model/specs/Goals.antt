@@ -168,7 +168,7 @@ talks (SetOf t g m) = false
 talks (Predicate i t) = false
 
 -- A goal's row, where these predicates reach outside: a goal of one of them that would talk is a call of it.
-abbrev pub settled : (Pi → Bool) → Tree → Row → Row
+unfoldable pub settled : (Pi → Bool) → Tree → Row → Row
 settled outside t r = if talks r && outside (indicator_of t) then Predicate (indicator_of t) t else r
 
 -- the errors of control have no context

@@ -9,8 +9,9 @@ ghost use Rattle.solve_model.specs.Rows.{is_arrow_symbol, is_call_of, row_as};
 
 use crate::arguments::{first_and_others, one_argument, three_arguments, two_arguments};
 use builtin_table::reaches_outside;
+use program::Program;
 use std::alloc::Global;
-use term_core::{App, Memory, Name, Node, Pi, Term};
+use term_core::{Memory, Name, Node, Pi, Term};
 
 // The row of a goal in the table of steps.
 #[derive(Drop)]
@@ -34,12 +35,13 @@ pub(crate) enum Row {
     Predicate,
 }
 
-// The row of a goal in an application: one that would talk where that reaches outside is a call.
-pub(crate) fn row_in(alloc: Global, app: App, goal: &Term) -> Result<Row, Memory>
-    ensures { IfOk result (λ row. row_as goal.now row ≡ settled (outside_in app) goal.now (row_of goal.now)) }
+// The row of a goal of a program: one that would talk where its application says that this reaches outside is a call.
+#[tactic(auto, unfolding(crate::specs::Goals::settled))]
+pub(crate) fn row_in(alloc: Global, program: &Program, goal: &Term) -> Result<Row, Memory>
+    ensures { IfOk result (λ row. row_as goal.now row ≡ settled (outside_in program.now.app) goal.now (row_of goal.now)) }
 {
     let row = row_of_goal(alloc, goal)?;
-    if talks(&row) && reaches_outside(app, &indicator(alloc, goal)?) {
+    if talks(&row) && reaches_outside(program.app(), &indicator(alloc, goal)?) {
         return Ok(Row::Predicate);
     }
     Ok(row)

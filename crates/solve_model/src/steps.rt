@@ -34,7 +34,7 @@ fn goal_step(
 {
     let Goal { term, scope } = goal;
     stack.work.spend(&term)?;
-    match row_in(alloc, program.app(), &term)? {
+    match row_in(alloc, program, &term)? {
         Row::Succeeds => Ok(Now::Runs(rest, more)),
         Row::Fails => Ok(Now::Ends(End::Failed)),
         Row::Cuts => {
