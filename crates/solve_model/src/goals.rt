@@ -36,15 +36,19 @@ pub(crate) enum Row {
 }
 
 // The row of a goal of a program: one that would talk where its application says that this reaches outside is a call.
-#[tactic(auto, unfolding(crate::specs::Goals::settled))]
 pub(crate) fn row_in(alloc: Global, program: &Program, goal: &Term) -> Result<Row, Memory>
     ensures { IfOk result (λ row. row_as goal.now row ≡ settled (outside_in program.now.app) goal.now (row_of goal.now)) }
 {
     let row = row_of_goal(alloc, goal)?;
-    if talks(&row) && reaches_outside(program.app(), &indicator(alloc, goal)?) {
-        return Ok(Row::Predicate);
+    if !talks(&row) {
+        return Ok(row);
     }
-    Ok(row)
+    let pi = indicator(alloc, goal)?;
+    if reaches_outside(program.app(), &pi) {
+        Ok(Row::Predicate)
+    } else {
+        Ok(row)
+    }
 }
 
 fn talks(row: &Row) -> bool
@@ -53,6 +57,7 @@ fn talks(row: &Row) -> bool
     matches!(row, Row::Output(_) | Row::Input(_, _))
 }
 
+// The row of a goal in the table of steps.
 fn row_of_goal(alloc: Global, goal: &Term) -> Result<Row, Memory>
     ensures { IfOk result (λ row. row_as goal.now row ≡ row_of goal.now) }
 {
