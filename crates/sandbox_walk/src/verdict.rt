@@ -44,7 +44,8 @@ pub fn check(alloc: Global, p: &Arc<Program>, goal: &Term) -> Result<Passed, Uns
     ensures goal { IfOk result (λ q. q.goal ≡ goal.now) }
     ensures refused { IfErr result (RefusesOver p.now.value goal.now) }
 {
-    let table = Table::of(alloc, p.app())?;
+    let app = p.app();
+    let table = Table::of(alloc, app)?;
     let reached = reached(alloc, &table, p, goal)?;
     let shown = all_shown(alloc, &table, p, goal, &reached)?;
     if let Some(pi) = least_outside(&table, &shown) {
