@@ -68,6 +68,7 @@ impl Library {
 
     /// The program of a client's source text over the library. It keeps to the sandbox, whatever the text. The faults are
     /// those of [`Program::from_terms`], where the built-in predicates of the application are reserved.
+    #[tactic(auto, using(crate::proofs::Accepted::loaded_keeps))]
     pub fn load(&self, alloc: Global, own: Vec<ReadTerm>) -> Result<Program, ProgFault>
         requires { AreNumbered own.items }
         ensures clauses { IfOk result (λ p. p.clauses ≡ program_of (library_clauses self.now.app) (clauses_in true (trees_read own.items))) }
@@ -129,6 +130,7 @@ fn terms_of(alloc: Global, text: &str) -> Result<Vec<ReadTerm>, Memory>
 }
 
 // Whether each term of a library is a clause, and these keep to the sandbox.
+#[tactic(auto, using(crate::proofs::Accepted::is_kept))]
 fn is_sound(alloc: Global, library: &[ReadTerm], app: App) -> Result<bool, Memory>
     requires { AreNumbered library.now }
     ensures whole { IfOk result (λ b. b ≡ true → length (clauses_in false (trees_read library.now)) ≡ length library.now) }
@@ -138,7 +140,8 @@ fn is_sound(alloc: Global, library: &[ReadTerm], app: App) -> Result<bool, Memor
     if program.in_order(alloc)?.len() != library.len() {
         return Ok(false);
     }
-    keeps_sandbox(alloc, &program)
+    let kept = keeps_sandbox(alloc, &program)?;
+    Ok(kept)
 }
 
 // The program of a library to which no client adds anything.

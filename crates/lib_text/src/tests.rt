@@ -44,9 +44,9 @@ fn keeps(alloc: Global, library: &str, own: &str, reserved: &[Pi]) -> Result<boo
 #[test]
 fn the_libraries_keep_to_the_sandbox(rt: HostRuntime) -> Result<(), Fail> {
     let alloc = rt.alloc();
-    assert_eq!(rt; Library::read(alloc, App::Sandbox)?.terms().len(), 70);
-    assert_eq!(rt; Library::read(alloc, App::School)?.terms().len(), 73);
-    assert_eq!(rt; Library::read(alloc, App::Numbers)?.terms().len(), 70);
+    assert_eq!(rt; Library::read(alloc, App::Sandbox)?.terms().len(), 68);
+    assert_eq!(rt; Library::read(alloc, App::School)?.terms().len(), 71);
+    assert_eq!(rt; Library::read(alloc, App::Numbers)?.terms().len(), 68);
     Ok(())
 }
 
