@@ -73,9 +73,9 @@ term_keeps rows n (compound f (tree h (tree b no_trees))) k = by (bytes_eq f (co
     by false e g = rw e (rule_keeps rows n (compound f (tree h (tree b no_trees))) (compound f (tree h (tree b no_trees))) fact_body (rw e at g))
 term_keeps rows n (compound f (tree x (tree y (tree z ts)))) k = rule_keeps rows n (compound f (tree x (tree y (tree z ts)))) (compound f (tree x (tree y (tree z ts)))) fact_body k
 
-more : (rows : Rows) (o : Option Clause) (cs : List Clause) → Keeps rows o → list_all (client_keeps rows) rows cs ≡ true → list_all (client_keeps rows) (cons_option o cs) ≡ true
+more : (rows : Rows) (o : Option Clause) (cs : List Clause) → Keeps rows o → list_all (client_keeps rows) cs ≡ true → list_all (client_keeps rows) (cons_option o cs) ≡ true
 more rows None cs k r = r
-more rows (Some c) cs k r = both (client_keeps rows c) (list_all (client_keeps rows) rows cs) k r
+more rows (Some c) cs k r = both (client_keeps rows c) (list_all (client_keeps rows) cs) k r
 
 pub own_keep : AcceptedTextsKeepTheSandbox
 unfolding first_fault

@@ -5,8 +5,8 @@ ghost use Rattle.builtin_table.specs.Table.{rows_of_app};
 use crate::clauses::clauses_keep;
 use crate::predicates::{are_closed, are_there};
 use crate::tables::{HELPERS, LIBRARY};
-use builtin_table::Table;
 use program::Program;
+use sandbox_walk::table_of;
 use std::alloc::Global;
 use term_core::Memory;
 
@@ -21,8 +21,7 @@ use term_core::Memory;
 pub fn keeps_sandbox(alloc: Global, program: &Program) -> Result<bool, Memory>
     ensures { IfOk result (λ b. b ≡ keeps_sandbox_of (rows_of_app program.now.app) program.now.clauses) }
 {
-    let app = program.app();
-    let table = Table::of(alloc, app)?;
+    let table = table_of(alloc, program)?;
     let clauses = program.in_order(alloc)?;
     if !clauses_keep(alloc, &table, &clauses)? {
         return Ok(false);

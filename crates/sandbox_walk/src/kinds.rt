@@ -9,8 +9,8 @@ use program::{Program, is_connective};
 use std::alloc::Global;
 use term_core::{Memory, Pi};
 
-// The built-in predicates of the program's application.
-pub(crate) fn table_of(alloc: Global, program: &Program) -> Result<Table, Memory>
+/// The table of built-in predicates of the program's application. `Err` is want of memory.
+pub fn table_of(alloc: Global, program: &Program) -> Result<Table, Memory>
     ensures { IfOk result (λ t. t ≡ rows_of_app program.now.app) }
 {
     let table = Table::of(alloc, program.app())?;
