@@ -67,15 +67,15 @@ chunk_grows : (held : List Tree) (k c : ℕ) (rs more : List Request) (go go' : 
 chunk_grows [] k c rs more go go' h = h c rs
 chunk_grows (t ∷ ts) k c rs more go go' h = begins_cons _ _ _ (next_grows rs more c go go' h)
 
-module _ (size : Tree → ℕ) (f f' : ℕ → List Tree → List Request → Part) (more : List Request) (ih : (c : ℕ) (held : List Tree) (rs : List Request) → Grows (f c held rs) (f' c held (rs ++ more))) where
-  step_grows : (k : ℕ) (s : Stop) (c : ℕ) (held : List Tree) (rs : List Request) → Grows (part_step size f k s c held rs) (part_step size f' k s c held (rs ++ more))
+module _ (style : Style) (f f' : ℕ → List Tree → List Request → Part) (more : List Request) (ih : (c : ℕ) (held : List Tree) (rs : List Request) → Grows (f c held rs) (f' c held (rs ++ more))) where
+  step_grows : (k : ℕ) (s : Stop) (c : ℕ) (held : List Tree) (rs : List Request) → Grows (part_step style f k s c held rs) (part_step style f' k s c held (rs ++ more))
   unfolding part_step
   step_grows k (Found t false) c held rs = begins_self _
-  step_grows k (Found t true) c held rs = at (is_full size c (held ++ t ∷ []))
+  step_grows k (Found t true) c held rs = at (is_full style.size c (held ++ t ∷ []))
     where
       at : (b : Bool) → Grows
-          (elim b as (λ y. Part) [ true ↦ gives k (Success (held ++ t ∷ []) true) (at_next rs c (λ d qs. f d [] qs)) | false ↦ f c (held ++ t ∷ []) rs ])
-          (elim b as (λ y. Part) [ true ↦ gives k (Success (held ++ t ∷ []) true) (at_next (rs ++ more) c (λ d qs. f' d [] qs)) | false ↦ f' c (held ++ t ∷ []) (rs ++ more) ])
+          (elim b as (λ y. Part) [ true ↦ gives k (Success (held ++ t ∷ []) style.names true) (at_next rs c (λ d qs. f d [] qs)) | false ↦ f c (held ++ t ∷ []) rs ])
+          (elim b as (λ y. Part) [ true ↦ gives k (Success (held ++ t ∷ []) style.names true) (at_next (rs ++ more) c (λ d qs. f' d [] qs)) | false ↦ f' c (held ++ t ∷ []) (rs ++ more) ])
       at true = begins_cons _ _ _ (next_grows rs more c (λ d qs. f d [] qs) (λ d qs. f' d [] qs) (λ d qs. ih d [] qs))
       at false = ih c (held ++ t ∷ []) rs
   step_grows k (Output t) c held rs = begins_cons _ _ _ (ih c held rs)
@@ -89,6 +89,6 @@ module _ (size : Tree → ℕ) (f f' : ℕ → List Tree → List Request → Pa
 
 pub further_only_adds : FurtherOnlyAdds
 unfolding part_of
-further_only_adds size [] qs c held rs more = begins_none _
-further_only_adds size (p ∷ ps) qs c held rs more =
-    step_grows size (part_of size ps) (part_of size (ps ++ qs)) more (λ d hs xs. further_only_adds size ps qs d hs xs more) p.0 p.1 c held rs
+further_only_adds style [] qs c held rs more = begins_none _
+further_only_adds style (p ∷ ps) qs c held rs more =
+    step_grows style (part_of style ps) (part_of style (ps ++ qs)) more (λ d hs xs. further_only_adds style ps qs d hs xs more) p.0 p.1 c held rs
