@@ -79,4 +79,4 @@ EnoughCanBeAsked =
 -- Over a program that keeps to the sandbox no goal that may be asked reaches outside, for each limit of steps and whatever is replied.
 abbrev pub AskedGoalsStayInside : Type 0
 AskedGoalsStayInside =
-    (l : Loaded) (s : Settings) (a : Ask) → KeepsSandbox l.clauses → refusal_of l a ≡ None → (rs : List Request) → StaysInside (replying (world_of l [] s.limit) rs) a.goal (answer_term s.names a)
+    (l : Loaded) (s : Settings) (a : Ask) → KeepsSandbox l → refusal_of l a ≡ None → (rs : List Request) → StaysInside (replying (world_of l [] s.limit) rs) a.goal (answer_term s.names a)
