@@ -6,9 +6,9 @@ use Rattle.term_core.specs.Parts.{arguments_of}
 use Rattle.term_core.specs.Substitution.{apply}
 use Rattle.term_core.specs.Unifier.{mgu}
 use Rattle.program.specs.Clauses.{Clause, clauses_of}
-use Rattle.solve_model.specs.Goals.{Row, Succeeds, Fails, Cuts, Both, Either, IfElse, Test, Differ, Call, Catch, Throw, Output, Input, Predicate, row_of, settled, Ready, Runs, Throws, ready, with_arguments, unknown_predicate, FindAll, BagOf, SetOf}
+use Rattle.solve_model.specs.Goals.{Row, Succeeds, Fails, Cuts, Both, Either, IfElse, Test, Differ, Call, Catch, Throw, Output, Input, Predicate, row_of, settled, Ready, Runs, Throws, ready, with_arguments, FindAll, BagOf, SetOf}
 use Rattle.builtin_table.specs.Primitives.{Outcome, Offers, Ball, Unknown, Offer}
-use Rattle.solve_model.specs.Run.{World, Bindings, Item, Goal, Commit, ExitCatch, End, Failed, Cut, Thrown, Waits, Spent, Outside, Place, Used, Ran, Runner, Branch, ends, after, at_failed, at_cut, at_condition, at_catch, cut_to, in_order, if_ready, Told, Asked, marked, one_reply, if_replied, offered, reply_offer, throws, undefined, performed, called, locally, branched, differs, recovered_by, caught, goal_step, item_step, some_left, Mark, without_answers, at_gathered, solutions, gathered, collected, found_all, all_grouped}
+use Rattle.solve_model.specs.Run.{World, Bindings, Item, Goal, Commit, ExitCatch, End, Failed, Cut, Thrown, Waits, Spent, Outside, Place, Used, Ran, Runner, Branch, ends, after, at_failed, at_cut, at_condition, at_catch, cut_to, in_order, if_ready, Told, Asked, marked, one_reply, if_replied, offered, reply_offer, undefined, performed, called, locally, branched, differs, recovered_by, caught, goal_step, item_step, some_left, Mark, without_answers, at_gathered, solutions, gathered, collected, found_all, all_grouped}
 use Rattle.builtin_table.specs.Solutions.{copies, after_copies, may_be_list, findall_offers, bagof_offers, setof_offers, behind_carets, witness, witnessed}
 
 -- what is done at an end passes on a run that stopped for want of steps or of a reply
