@@ -15,10 +15,10 @@ use Rattle.event_core.specs.declared.stop.Stop.{Stop}
 use Rattle.event_core.specs.declared.stop.Stop.TheVariants.{Ball}
 use Rattle.event_core.specs.declared.request.Request.{Request}
 use Rattle.event_core.specs.Stops.{mark_stop, is_followed, at_end, end_stop, stops_of, resource_error, stop_fits, cut_at, stops}
-use Rattle.event_core.specs.Parts.{part_of, part, replies}
+use Rattle.event_core.specs.Parts.{Style, part_of, part, replies}
 use Rattle.event_core.specs.Laws.{StepsNeverFall}
 use Rattle.event_core.proofs.Reaching.{Each}
-use Rattle.event_core.proofs.Piecewise.{events_each, step_keeps}
+use Rattle.event_core.proofs.Keeping.{events_each, step_keeps}
 
 abbrev Marks : Type 0
 Marks = List (ℕ × Mark)
