@@ -4,6 +4,7 @@ pub mod Cutting
 pub mod Ending
 pub mod Growing
 pub mod Keeping
+pub mod Local
 pub mod Longer
 pub mod Parts
 pub mod Prompts
