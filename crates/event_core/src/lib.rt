@@ -29,7 +29,8 @@ pub use fit::{Fit, fit_of};
 pub use full::all_events;
 pub use laws::{
     asked_goals_stay_inside, chunks_dont_matter, enough_can_be_asked, further_only_adds,
-    requests_only_add, steps_never_fall, steps_only_add,
+    readers_rest_as_parts_do, reads_are_local, requests_only_add, steps_never_fall,
+    steps_only_add,
 };
 pub use limits::{CHUNK_BYTES, DEFAULT_LIMIT, MAX_CHUNK, MAX_DEPTH, MAX_LIMIT, MAX_TEXT};
 pub use local::{Answers, End};
