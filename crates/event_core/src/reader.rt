@@ -47,20 +47,24 @@ pub struct Reader {
 }
 
 // The same names again.
-pub(crate) fn names_again(
-    alloc: Global,
-    names: &Option<List<Name>>,
-) -> Result<Option<List<Name>>, Memory>
+fn copies(alloc: Global, names: &[Name]) -> Result<List<Name>, Memory>
     ensures { IfOk result (λ ns. ns ≡ names.now) }
 {
-    let Some(names) = names else {
-        return Ok(None);
-    };
-    let mut again = List::new(alloc);
-    for name in names.as_slice() {
-        again.push(name.copied(alloc)?)?;
+    let mut all = List::new(alloc);
+    for name in names {
+        all.push(name.copied(alloc)?)?;
     }
-    Ok(Some(again))
+    Ok(all)
+}
+
+// The names again, if there are names.
+fn names_again(alloc: Global, names: &Option<List<Name>>) -> Result<Option<List<Name>>, Memory>
+    ensures { IfOk result (λ ns. ns ≡ names.now) }
+{
+    match names {
+        Some(names) => Ok(Some(copies(alloc, names.as_slice())?)),
+        None => Ok(None),
+    }
 }
 
 // The event of these answers.
