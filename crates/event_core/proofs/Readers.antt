@@ -106,6 +106,26 @@ tells_twice es fs p = ap (λ (l : Steps). let q : Part = record p { events = l }
 pub tells_none : (es : Steps) (x : Rest) (rs : List Request) → tells es (record { events = []; rest = x; unread = rs }) ≡ record { events = es; rest = x; unread = rs }
 tells_none es x rs = ap (λ (l : Steps). let q : Part = record { events = l; rest = x; unread = rs } in q) (append-nil es)
 
+-- ---- one stop, one request
+
+-- a reader that reads on, after one stop more
+pub read_brings : (old new : Reader) (held : List Tree) → old.stand ≡ Reading held → (k : ℕ) (s : Stop) (m : Moved) → m ≡ after_stop (style_with old.names) old.chunk k s held →
+    new ≡ record { chunk = old.chunk; names = old.names; stand = m.stand } → (qs : StopList) (rs : List Request) → ahead old ((k, s) ∷ qs) rs ≡ tells (listed m.event) (ahead new qs rs)
+unfolding part_of
+read_brings old new held e k s m is becomes qs rs =
+    ap (λ x. ahead_at (style_with old.names) x old.chunk ((k, s) ∷ qs) rs) e
+    ∙ stop_reads (style_with old.names) qs old.chunk k s held rs
+    ∙ ap (λ x. behind (style_with old.names) old.chunk x qs rs) (sym is)
+    ∙ ap (λ y. tells (listed m.event) (ahead y qs rs)) (sym becomes)
+
+-- a reader that rests, after a request that fits
+pub resume_brings : (old new : Reader) (r : Request) → is_fitting old.stand r ≡ true → (m : Moved) → m ≡ after_fitting (style_with old.names) (chunk_after r old.chunk) old.stand →
+    new ≡ record { chunk = chunk_after r old.chunk; names = old.names; stand = m.stand } → (qs : StopList) (rs : List Request) → ahead old qs (r ∷ rs) ≡ tells (listed m.event) (ahead new qs rs)
+resume_brings old new r fits m is becomes qs rs =
+    fitting_reads (style_with old.names) qs old.chunk old.stand r fits rs
+    ∙ ap (λ x. behind (style_with old.names) (chunk_after r old.chunk) x qs rs) (sym is)
+    ∙ ap (λ y. tells (listed m.event) (ahead y qs rs)) (sym becomes)
+
 -- ---- over prefixes
 
 module _ (ns : Option (List (List ℕ))) (c : ℕ) (ps : StopList) (rs : List Request) (es fs : Steps) (old new : Reader) (h : HasGiven ns c ps rs es old) (same : new.names ≡ old.names) where
