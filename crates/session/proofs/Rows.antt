@@ -34,7 +34,7 @@ opened = tt
 
 -- an abort while a turn is out: the turn is dropped
 abbrev aborted : List Entry
-aborted = Sent ask ∷ Taken ∷ Abort ∷ Given 1 2 1 false false ∷ Pulled ∷ Sent ask ∷ Taken ∷ Given 2 2 1 false true ∷ []
+aborted = Sent ask ∷ Taken ∷ Abort ∷ Given 1 2 1 false false ∷ Pulled 1 ∷ Sent ask ∷ Taken ∷ Given 2 2 1 false true ∷ []
 
 aborted_acts : acts (over_stops false three) aborted made ≡ Sends ask ∷ Struck ByAbort 1 0 0 ∷ Sends ask ∷ []
 unfolding opened

@@ -206,7 +206,7 @@ module _ (spec : Spec) (real : IsResolution spec) where
 
   enters : (budget : ℕ) (e : Entry) (p : Pengine) → IsAllowed spec budget e p → Stands p → Stands (entered spec e p)
   enters budget (Sent r) p l h = h
-  enters budget Pulled p l h = h
+  enters budget (Pulled m) p l h = h
   enters budget Abort p l h = aborted p.state p h
   enters budget Destroy p l h = destroyed p.state p
   enters budget Taken p l h = h
