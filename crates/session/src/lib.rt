@@ -3,6 +3,7 @@
 
 mod answers;
 mod automaton;
+mod copies;
 mod cut;
 mod laws;
 mod letter;
