@@ -670,8 +670,11 @@ Settles v w = Does (λ p. settled (spec_seen v) (length p.mailbox) p) v w
 pub sent_does : (a : Automaton) (l : Letter) (n : ℕ) (w : View) → Settles (view_of (record a { mailbox = buffer (a.mailbox.items ++ l ∷ []) a.mailbox.capacity; accepted = n })) w → Enters (Sent l.node) (view_of a) w
 sent_does a l n w d = record { program = d.program; settings = d.settings; seen = λ p h. d.seen (record p { mailbox = p.mailbox ++ l.node ∷ [] }) (sent_seen a l n p h) }
 
-pub pulled_does : (a : Automaton) (e : Event) (es : List Event) (w : View) → a.queue.items ≡ e ∷ es → Settles (view_of (record a { queue = buffer es a.queue.capacity; pulled = min (a.pulled + 1) (2 ^ 64 - 1) })) w → Enters Pulled (view_of a) w
-pulled_does a e es w i d = record { program = d.program; settings = d.settings; seen = λ p h. d.seen (record p { pulled = suc p.pulled }) (pulled_seen a e es p i h) }
+one_more : (k : ℕ) → suc k ≡ k + 1
+one_more k = omega arith
+
+pub pulled_does : (a : Automaton) (e : Event) (es : List Event) (w : View) → a.queue.items ≡ e ∷ es → Settles (view_of (record a { queue = buffer es a.queue.capacity; pulled = min (a.pulled + 1) (2 ^ 64 - 1) })) w → Enters (Pulled 1) (view_of a) w
+pulled_does a e es w i d = record { program = d.program; settings = d.settings; seen = λ p h. subst (λ (k : ℕ). IsSeen w (settled (spec_seen (view_of a)) (length p.mailbox) (record p { pulled = k }))) (one_more p.pulled) (d.seen (record p { pulled = suc p.pulled }) (pulled_seen a e es p i h)) }
 
 abbrev pub cleared : Automaton → Automaton
 cleared a = record a { mailbox = buffer [] a.mailbox.capacity }

@@ -30,7 +30,7 @@ Known c cs rs =
 
 abbrev Left : goal.After-drop-requests-2 → Loaded → List Request → Type 0
 Left c cs rs =
-    c.in_ok-events.field-0.rest ≡ None → StaysInside (replying (world_of cs [] (turn c).settings.limit) rs) (turn c).query.asked.goal (turn c).query.asked.template →
+    c.in_ok-events.field-0.rest ≡ None → StaysInside (replying (world_of cs [] (turn c).settings.limit) rs) (turn c).query.asked.goal (answer_term (turn c).settings.names (turn c).query.asked) →
     length c.in_ok-events.field-0.events < length ((spec_of cs (turn c).settings).part (turn c).query.asked rs).events
 
 known : (c : goal.After-drop-requests-2) → Known c (turn c).program (turn c).query.requests
