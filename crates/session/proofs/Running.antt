@@ -11,7 +11,7 @@ use Rattle.event_core.specs.declared.rest.Rest.{Rest}
 use Rattle.event_core.specs.Parts.{Part}
 use Rattle.event_core.specs.Laws.{StaysInside, replying}
 use Rattle.event_core.specs.Reaching.{IsBegun, IsWhole}
-use Rattle.event_core.specs.Standing.{chunk_of}
+use Rattle.event_core.specs.Standing.{chunk_of, style_of}
 use Rattle.event_core.specs.Texts.{quoted}
 use Rattle.event_core.specs.Fits.{fits}
 use Rattle.event_core.specs.Names.{answer_term}

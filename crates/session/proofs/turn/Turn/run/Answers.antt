@@ -2,6 +2,7 @@ use Rattle.std.proofs.Common.{◌≡◌, ◌∙◌, ℕ, ◌+◌, ◌^◌, ◌<�
 use Rattle.std.specs.Option.{MatchOption, is_some}
 use Rattle.program.specs.Loaded.{Loaded}
 use Rattle.solve_model.specs.Trace.{world_of}
+use Rattle.event_core.specs.Names.{answer_term}
 use Rattle.event_core.specs.declared.event.Event.{Event}
 use Rattle.event_core.specs.declared.request.Request.{Request}
 use Rattle.event_core.specs.Laws.{StaysInside, replying}
