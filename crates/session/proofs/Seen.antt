@@ -30,7 +30,7 @@ use Rattle.session.specs.After as state
 use Rattle.session.specs.After.{State, Pengine, waiting, emits, ends, begins, fits, first_consumed, consumes_now, settled, aborted_at, destroyed_at, handed_out, rest_at, advances, turned_at, struck, most_waiting, after_entry, after, made, Entry, without, Sent, Pulled, Abort, Taken, Given, Destroy}
 use Rattle.session.specs.Views.{Look, Idle, Running, Out, More, Prompting, Ended, View, IsLook, IsKept, IsSeen, spec_seen, Does, Enters, out, taken}
 use Rattle.event_core.specs.declared.spec.Spec as wanted
-use Rattle.session.specs.Begun.{settings_of, first_of, IsBegun}
+use Rattle.session.specs.Begun.{first_of, IsBegun}
 use Rattle.session.specs.Answers.{is_turn, takes, takes_at, last_of}
 use Rattle.session.specs.Kept.{query_of, look_of, requests_of, view_of, resting, rests, rests_now, is_busy, MayWait, further_of, Refuses, IsLetter, IsSound, IsBack, Tells, Turns, says, closed}
 
@@ -811,21 +811,21 @@ after_one : (spec : Spec) (e : Entry) (p : Pengine) → after spec (e ∷ []) p 
 unfolding after
 after_one spec e p = refl
 
-pub begun_none : (s : wanted.Spec) (a : Automaton) → a.program.value ≡ s.program.value → a.settings ≡ settings_of s → IsSeen (view_of a) made → s.ask ≡ None → IsBegun s (view_of a)
+pub begun_none : (s : wanted.Spec) (a : Automaton) → a.program.value ≡ s.program.value → a.settings ≡ s.settings → IsSeen (view_of a) made → s.ask ≡ None → IsBegun s (view_of a)
 begun_none s a c t h n = record {
   program = c;
   settings = t;
-  seen = subst (λ o. IsSeen (view_of a) (after (spec_of s.program.value (settings_of s)) (first_of o) made)) (sym n)
-      (subst (λ (z : Pengine). IsSeen (view_of a) z) (sym (after_none (spec_of s.program.value (settings_of s)) made)) h);
+  seen = subst (λ o. IsSeen (view_of a) (after (spec_of s.program.value s.settings) (first_of o) made)) (sym n)
+      (subst (λ (z : Pengine). IsSeen (view_of a) z) (sym (after_none (spec_of s.program.value s.settings) made)) h);
 }
 
-pub begun_asked : (s : wanted.Spec) (x : Ask) (a b : Automaton) → a.program.value ≡ s.program.value → a.settings ≡ settings_of s → IsSeen (view_of a) made → s.ask ≡ Some x → Enters (Sent (request.Ask x)) (view_of a) (view_of b) → IsBegun s (view_of b)
+pub begun_asked : (s : wanted.Spec) (x : Ask) (a b : Automaton) → a.program.value ≡ s.program.value → a.settings ≡ s.settings → IsSeen (view_of a) made → s.ask ≡ Some x → Enters (Sent (request.Ask x)) (view_of a) (view_of b) → IsBegun s (view_of b)
 begun_asked s x a b c t h i d = record {
   program = d.program ∙ c;
   settings = d.settings ∙ t;
-  seen = subst (λ o. IsSeen (view_of b) (after (spec_of s.program.value (settings_of s)) (first_of o) made)) (sym i)
-      (subst (λ (z : Pengine). IsSeen (view_of b) z) (sym (after_one (spec_of s.program.value (settings_of s)) (Sent (request.Ask x)) made))
-      (subst (λ (z : Spec). IsSeen (view_of b) (after_entry z (Sent (request.Ask x)) made)) (same_spec a.program.value s.program.value a.settings (settings_of s) c t) (d.seen made h)));
+  seen = subst (λ o. IsSeen (view_of b) (after (spec_of s.program.value s.settings) (first_of o) made)) (sym i)
+      (subst (λ (z : Pengine). IsSeen (view_of b) z) (sym (after_one (spec_of s.program.value s.settings) (Sent (request.Ask x)) made))
+      (subst (λ (z : Spec). IsSeen (view_of b) (after_entry z (Sent (request.Ask x)) made)) (same_spec a.program.value s.program.value a.settings s.settings c t) (d.seen made h)));
 }
 
 pub refuses_ask : (spec : Spec) (r : Request) (a : Ask) (t : Option Tree) → r ≡ request.Ask a → t ≡ spec.refusal a → Refuses spec r t
