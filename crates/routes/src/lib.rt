@@ -3,6 +3,7 @@
 #![tactic(auto)]
 
 mod asked;
+mod creation;
 mod endpoint;
 mod fault;
 mod params;
@@ -10,6 +11,7 @@ mod refusal;
 mod router;
 
 pub use asked::{Asked, Format};
+pub use creation::{Creation, Settings};
 pub use endpoint::{Allowed, Endpoint};
 pub use fault::{Param, RouteFault};
 pub use refusal::Refusal;
