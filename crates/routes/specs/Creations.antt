@@ -1,9 +1,9 @@
 -- What a creation asks: the members of its object (RFC 8259, section 4; of a name that stands twice the last
 -- value counts). Members that are wrong are told by the byte order of their names.
-use Rattle.std.specs.Prelude.{◌&&◌, ℕ, Bool, true, false, List, [], min, Option, Some, None, option_and_then, codes, if◌then◌else◌, nat_le, Result, Ok, Err}
+use Rattle.std.specs.Prelude.{◌&&◌, ℕ, Bool, true, false, List, [], min, Option, Some, None, option_and_then, codes, if◌then◌else◌, is_some, nat_le, Result, Ok, Err}
 use Rattle.std.specs.Str.{is_utf8}
-use Rattle.serde_json.specs.Data.{Data, null, boolean, number, string, array, object}
-use Rattle.serde_json.specs.Find.{get, as_number, as_u64, as_bool, as_str}
+use Rattle.serde_json.specs.Data.{Data}
+use Rattle.serde_json.specs.Find.{get, as_number, as_object, as_u64, as_bool, as_str}
 use Rattle.serde_json.specs.Read.{read}
 use Rattle.term_core.specs.Apps.{app_named}
 use Rattle.term_core.specs.declared.app.App.{App}
@@ -76,12 +76,7 @@ members_by member = do
   Ok (record { app = app; ask = ask; template = template; src_text = text_or_none src; settings = s })
 
 abbrev pub value_by : Data → Result Creation RouteFault
-value_by null = Err (BadParam param.Body)
-value_by (boolean b) = Err (BadParam param.Body)
-value_by (number n) = Err (BadParam param.Body)
-value_by (string s) = Err (BadParam param.Body)
-value_by (array ds) = Err (BadParam param.Body)
-value_by (object ms) = members_by (λ k. get k (object ms))
+value_by d = if is_some (as_object d) then members_by (λ k. get k d) else Err (BadParam param.Body)
 
 abbrev pub json_of : List ℕ → Option Data
 json_of body = if is_utf8 body then read body else None

@@ -1,8 +1,8 @@
 // The object of a creation.
-ghost use Rattle.std.specs.Prelude.{◌≡◌, ◌≢◌, IfOk, IfErr, Ok, Err, option_map};
+ghost use Rattle.std.specs.Prelude.{◌≡◌, ◌≢◌, IfOk, IfErr, Ok, Err, Some, None, option_map};
 ghost use Rattle.serde_json.specs.Find.{get};
 ghost use Rattle.serde_json.specs.View.{view};
-ghost use Rattle.routes.specs.Creations.{greatest_limit, default_limit, app_by, text_by, number_by, flag_by, settings_by, text_or_none, members_by, value_by, creation_by};
+ghost use Rattle.routes.specs.Creations.{greatest_limit, default_limit, app_by, text_by, number_by, flag_by, settings_by, text_or_none, members_by, value_by, json_of, creation_by};
 
 use crate::fault::{Param, RouteFault};
 use serde_json::{Category, Value};
@@ -140,6 +140,34 @@ fn members_of(alloc: Global, object: &Value) -> Result<Creation, RouteFault>
     })
 }
 
+/// What a JSON value asks.
+fn value_of(alloc: Global, value: &Value) -> Result<Creation, RouteFault>
+    ensures ok { IfOk result (λ c. value_by (view value.now) ≡ Ok c) }
+    ensures err { IfErr result (λ e. e ≢ RouteFault.Memory → value_by (view value.now) ≡ Err e) }
+{
+    if value.is_object() {
+        members_of(alloc, value)
+    } else {
+        Err(RouteFault::BadParam(Param::Body))
+    }
+}
+
+/// The JSON value of a body.
+#[tactic(auto, using(crate::proofs::Bodies::json_some, crate::proofs::Bodies::json_none))]
+fn json_of(alloc: Global, body: &[u8]) -> Result<Value, RouteFault>
+    ensures ok { IfOk result (λ v. json_of body.now ≡ Some (view v)) }
+    ensures err { IfErr result (λ e. e ≢ RouteFault.Memory → json_of body.now ≡ None) }
+    ensures told { IfErr result (λ e. e ≢ RouteFault.Memory → e ≡ RouteFault.BadParam Param.Body) }
+{
+    match Value::from_slice(alloc, body) {
+        Ok(value) => Ok(value),
+        Err(error) => match error.classify() {
+            Category::Memory => Err(RouteFault::Memory),
+            _ => Err(RouteFault::BadParam(Param::Body)),
+        },
+    }
+}
+
 impl Creation {
     /// What a creation with this body asks. `BadParam` of the first wrong member by the byte order of the
     /// names, and of `body` where it is no JSON object: it isn't UTF-8, arrays and objects nest deeper than
@@ -148,13 +176,7 @@ impl Creation {
         ensures ok { IfOk result (λ c. creation_by body.now ≡ Ok c) }
         ensures err { IfErr result (λ e. e ≢ RouteFault.Memory → creation_by body.now ≡ Err e) }
     {
-        match Value::from_slice(alloc, body) {
-            Ok(value) if value.is_object() => members_of(alloc, &value),
-            Ok(_) => Err(RouteFault::BadParam(Param::Body)),
-            Err(error) => match error.classify() {
-                Category::Memory => Err(RouteFault::Memory),
-                _ => Err(RouteFault::BadParam(Param::Body)),
-            },
-        }
+        let value = json_of(alloc, body)?;
+        value_of(alloc, &value)
     }
 }
