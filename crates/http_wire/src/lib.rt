@@ -6,7 +6,6 @@
 #![tactic(auto)]
 
 mod buffer;
-mod ending;
 mod framing;
 mod head;
 mod laws;
