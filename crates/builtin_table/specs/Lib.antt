@@ -8,4 +8,5 @@ pub mod Primitives
 pub mod Sorting
 pub mod Solutions
 pub mod Table
+pub mod Taken
 pub mod Texts

@@ -3,10 +3,10 @@ pub mod Coming
 pub mod Cutting
 pub mod Ending
 pub mod Growing
+pub mod Keeping
+pub mod Local
 pub mod Longer
 pub mod Parts
-pub mod Pieces
-pub mod Piecewise
 pub mod Prompts
 pub mod Reaching
 pub mod Reading
@@ -14,5 +14,5 @@ pub mod Refusing
 pub mod Resting
 pub mod Rising
 mod Rows
-pub mod Standing
+pub mod Readers
 pub mod Stepping

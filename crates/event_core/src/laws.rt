@@ -1,5 +1,7 @@
 // Laws that hold of the events of every query.
 ghost use Rattle.event_core.specs.Laws.{FurtherOnlyAdds, RequestsOnlyAdd, StepsOnlyAdd, ChunksDontMatter, EnoughCanBeAsked, StepsNeverFall, AskedGoalsStayInside};
+ghost use Rattle.event_core.specs.Local.{ReadsAreLocal};
+ghost use Rattle.event_core.specs.Readers.{RestsAsThePart};
 
 /// Further requests and further stops only add: the events that were given stay.
 pub fn further_only_adds()
@@ -34,4 +36,14 @@ pub fn steps_never_fall()
 /// Over a program that keeps to the sandbox no goal that may be asked reaches outside, for each limit of steps and whatever is replied.
 pub fn asked_goals_stay_inside()
     ensures { AskedGoalsStayInside }
+{}
+
+/// Where a reader of stops rests, the events of the query rest as well: it has given all that these stops decide for these requests.
+pub fn readers_rest_as_parts_do()
+    ensures { RestsAsThePart }
+{}
+
+/// What a client makes of all events of a query that was asked enough is what the local run comes to, whatever the size of the chunks: the same answers and the same end.
+pub fn reads_are_local()
+    ensures { ReadsAreLocal }
 {}

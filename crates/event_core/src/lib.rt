@@ -7,12 +7,13 @@ mod fit;
 mod full;
 mod laws;
 mod limits;
+mod local;
 mod made;
+mod names;
 mod pengine;
-mod piece;
 mod print;
-mod query;
 mod reached;
+mod reader;
 mod refused;
 mod request;
 mod rest;
@@ -23,18 +24,21 @@ mod stops;
 mod text;
 mod waiting;
 
-pub use event::{Event, Kind};
+pub use event::{Event, EventName, Kind};
 pub use fit::{Fit, fit_of};
 pub use full::all_events;
 pub use laws::{
     asked_goals_stay_inside, chunks_dont_matter, enough_can_be_asked, further_only_adds,
-    requests_only_add, steps_never_fall, steps_only_add,
+    readers_rest_as_parts_do, reads_are_local, requests_only_add, steps_never_fall,
+    steps_only_add,
 };
-pub use limits::{CHUNK_BYTES, DEFAULT_LIMIT, MAX_DEPTH, MAX_LIMIT, MAX_TEXT};
+pub use limits::{CHUNK_BYTES, DEFAULT_LIMIT, MAX_CHUNK, MAX_DEPTH, MAX_LIMIT, MAX_TEXT};
+pub use local::{Answers, End};
 pub use made::Made;
 pub use pengine::Pengine;
 pub use print::line;
 pub use reached::{Reached, reach};
+pub use reader::Reader;
 pub use refused::refusal;
 pub use request::{Ask, Request};
 pub use rest::Rest;

@@ -11,10 +11,10 @@ use Rattle.request_text.specs.Creation.{Creation}
 use Rattle.request_text.specs.Spelled.{Script}
 
 abbrev pub script_read : kept.Script → Script
-script_read s = record { program = s.program; settings = s.settings; lines = s.lines }
+script_read s = record { program = s.spec.program.value; settings = s.spec.settings; lines = s.lines }
 
 abbrev pub creation_read : event.Spec → Creation
-creation_read s = record { program = s.program.value; ask = s.ask; chunk = s.chunk; limit = s.limit; destroy = s.destroy; bytes = s.bytes }
+creation_read s = record { program = s.program.value; ask = s.ask; settings = s.settings; bytes = s.bytes }
 
 -- want of memory stays what it is
 abbrev pub clause_fault : ProgFault → SpecFault

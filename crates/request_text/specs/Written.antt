@@ -12,7 +12,7 @@ use Rattle.builtin_table.specs.Lists.{list_of}
 use Rattle.event_core.specs.declared.request.Ask.{Ask}
 use Rattle.event_core.specs.declared.request.Request.TheVariants as request
 use Rattle.event_core.specs.declared.request.Request.{Request}
-use Rattle.request_text.specs.declared.options.TheConstants.{MAX_CHUNK}
+use Rattle.event_core.specs.declared.limits.TheConstants.{MAX_CHUNK}
 use Rattle.request_text.specs.declared.sent.Sent.{Sent}
 use Rattle.request_text.specs.declared.sent.Sent.TheVariants.{Request as Asks, Abort, Destroy}
 use Rattle.request_text.specs.Spelled.{sent_in}
@@ -63,7 +63,7 @@ sent_text s = text Quoted (sent_term s)
 -- f of each variable's number, and how many bytes the text has
 module _ (f : ℕ → ℕ) (bytes : ℕ) where
   abbrev pub ask_mapped : Ask → Ask
-  ask_mapped a = record { goal = map_variables f a.goal; template = map_variables f a.template; chunk = a.chunk; bytes = bytes }
+  ask_mapped a = record { goal = map_variables f a.goal; template = map_variables f a.template; names = []; chunk = a.chunk; bytes = bytes }
 
   abbrev pub request_mapped : Request → Request
   request_mapped (request.Ask a) = request.Ask (ask_mapped a)

@@ -4,12 +4,9 @@ ghost use Rattle.std.specs.List.{list_all};
 ghost use Rattle.request_text.specs.Options.{value_of, given_for, with_value, term_or, number_or, flag_or, is_ask_option, ask_of, ask_with, is_create_option, settings_of, created};
 
 use crate::shapes::{elements, flag_of, is_compound, number_up_to};
-use event_core::{Ask, MAX_LIMIT, Settings};
+use event_core::{Ask, MAX_CHUNK, MAX_LIMIT, Settings};
 use std::alloc::Global;
-use term_core::{Memory, Term};
-
-/// The greatest chunk.
-pub(crate) const MAX_CHUNK: u64 = 1_000;
+use term_core::{List, Memory, Term};
 
 /// How often an option is given.
 #[derive(Debug, Drop)]
@@ -117,6 +114,7 @@ fn ask_of(alloc: Global, goal: &Term, options: &[Term], bytes: u64) -> Result<Op
     Ok(Some(Ask {
         goal: goal.copied(alloc)?,
         template,
+        names: List::new(alloc),
         chunk: chunk as u32,
         bytes,
     }))
@@ -163,6 +161,7 @@ fn settings_of(alloc: Global, options: &[Term]) -> Result<Option<Settings>, Memo
         chunk,
         limit,
         destroys,
+        names,
     } = Settings::DEFAULT;
     let Some(chunk) = number_or(
         u64::from(chunk),
@@ -181,6 +180,7 @@ fn settings_of(alloc: Global, options: &[Term]) -> Result<Option<Settings>, Memo
         chunk: chunk as u32,
         limit,
         destroys,
+        names,
     }))
 }
 

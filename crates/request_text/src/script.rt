@@ -3,6 +3,7 @@ ghost use Rattle.std.specs.Prelude.{◌≡◌, ◌≢◌, ◌≤◌, ◌+◌, Ok
 ghost use Rattle.std.specs.Str.Lines.{lines};
 ghost use Rattle.prolog_read.specs.Clauses.{iso};
 ghost use Rattle.prolog_read.specs.Outcome.{term_read};
+ghost use Rattle.sandbox_walk.specs.Keeping.{KeepsSandbox};
 ghost use Rattle.request_text.specs.declared.fault.ScriptFault.TheVariants as script_fault;
 ghost use Rattle.request_text.specs.Spelled.{is_passed, line_term, request_at, requests_in, session_of, session_in, settings_at, script};
 ghost use Rattle.request_text.specs.Kept.{script_read};
@@ -13,21 +14,20 @@ use crate::parts::parts;
 use crate::requests::request_of;
 use crate::sent::Sent;
 use crate::spec::program_in;
-use event_core::Settings;
+use event_core::{Settings, Spec};
 use lib_text::Library;
 use op_table::Ops;
-use program::Program;
 use prolog_read::{ReadFault, read_term};
 use std::alloc::{AllocError, Global};
+use std::sync::Arc;
 use term_core::{List, Memory, Term};
 
 /// A script (Lager and Wielemaker, TPLP 2014): one pengine, and what is sent to it.
 #[derive(Debug, Drop)]
 pub struct Script {
-    /// The program that the source text spells over the library.
-    pub program: Program,
-    /// The settings that the line `create(Options)` gives, or the default ones.
-    pub settings: Settings,
+    /// What the pengine is made with: the program that the source text spells over the library, no query, and the settings that
+    /// the line `create(Options)` gives, or the default ones.
+    pub spec: Spec,
     /// What the request lines send, in order.
     pub lines: List<Sent>,
 }
@@ -159,8 +159,9 @@ fn session_in(alloc: Global, text: &str) -> Result<(Settings, List<Sent>), Scrip
 /// Bytes that aren't UTF-8 are refused first (`Utf8`), then a source text that can't be read or has a clause that is
 /// refused (`Spec`), with places and numbers from its start, then the first request line that is refused (`Line`).
 pub fn read_script(alloc: Global, library: &Library, bytes: &[u8]) -> Result<Script, ScriptFault>
-    ensures script { IfOk result (λ s. script bytes.now ≡ Ok (script_read s)) }
-    ensures refused { IfErr result (λ e. e ≢ script_fault.Memory → script bytes.now ≡ Err e) }
+    ensures script { IfOk result (λ s. script library.now.app bytes.now ≡ Ok (script_read s)) }
+    ensures keeps { IfOk result (λ s. KeepsSandbox s.spec.program.value) }
+    ensures refused { IfErr result (λ e. e ≢ script_fault.Memory → script library.now.app bytes.now ≡ Err e) }
 {
     let text = match str::from_utf8(bytes) {
         Ok(text) => text,
@@ -173,9 +174,11 @@ pub fn read_script(alloc: Global, library: &Library, bytes: &[u8]) -> Result<Scr
     let (source, requests) = parts(text);
     let program = program_in(alloc, library, source)?;
     let (settings, lines) = session_in(alloc, requests)?;
-    Ok(Script {
-        program,
+    let spec = Spec {
+        program: Arc::new(alloc, program)?,
+        ask: None,
         settings,
-        lines,
-    })
+        bytes: source.len() as u64,
+    };
+    Ok(Script { spec, lines })
 }

@@ -5,7 +5,7 @@ use Rattle.std.proofs.lemmas.Bool.{and_parts}
 use Rattle.term_core.specs.declared.pi.Pi.{Pi}
 use Rattle.term_core.specs.Tree.{Tree, variable, integer, atom, compound, Trees, no_trees, tree, arity}
 use Rattle.term_core.specs.Substitution.{substituted}
-use Rattle.builtin_table.specs.Outside.{is_outside_in, reaches_outside}
+use Rattle.builtin_table.specs.Outside.{is_outside_in}
 use Rattle.builtin_table.specs.Table.{Rows}
 use Rattle.program.specs.Clauses.{Clause, same_indicator, clauses_of}
 use Rattle.solve_model.specs.Run.{World, query}
@@ -178,14 +178,15 @@ module _ (rows : Rows) (p : List Clause) (known : Pi → Bool) (run_ks : Kinds) 
   may_inside i (inr k) = acc.inside i k
 
   -- A passed goal runs the same whatever the primitives outside would do, and doesn't end outside.
-  pub sound : (w w' : World) → w.clauses ≡ p → w'.clauses ≡ w.clauses → w'.replies ≡ w.replies → w'.limit ≡ w.limit →
-      ((i : Pi) → is_outside_in rows i ≡ false → reaches_outside i ≡ false) →
-      ((i : Pi) (ts : List Tree) (v : ℕ) → is_outside_in rows i ≡ false → clauses_of i p ≡ [] → length ts ≡ i.arity → w'.primitive i.name ts v ≡ w.primitive i.name ts v) →
+  pub sound : (w w' : World) → w.clauses ≡ p → w'.clauses ≡ w.clauses → w'.outside ≡ w.outside → w'.replies ≡ w.replies → w'.limit ≡ w.limit →
+      ((i : Pi) → is_outside_in rows i ≡ false → w.outside i ≡ false) →
+      ((i : Pi) (ts : List Tree) (v : ℕ) → is_outside_in rows i ≡ false → clauses_of i p ≡ [] → length ts ≡ i.arity → w'.primitive i ts v ≡ w.primitive i ts v) →
       (t : Tree) → Same (query w g t) (query w' g t)
-  sound w w' e clauses replies limit inside prims t =
+  sound w w' e clauses outside replies limit inside prims t =
       query_same MayRun run_ks (acc.knows MayRun (λ i h. inr h)) w w'
       (record {
         same_clauses = clauses;
+        same_outside = outside;
         same_replies = replies;
         same_limit = limit;
         inside = λ i h. inside i (may_inside i h);

@@ -26,7 +26,7 @@ abbrev over_stops : Bool → List (ℕ × Stop) → Spec
 over_stops d ps = record { destroys = d; refusal = λ a. None; part = λ a rs. part_of (λ t. 1) ps 1 [] rs }
 
 abbrev ask : Request
-ask = Ask (record { goal = of_p (codes "a"); template = of_p (codes "a"); chunk = 0; bytes = 0 })
+ask = Ask (record { goal = of_p (codes "a"); template = of_p (codes "a"); names = []; chunk = 0; bytes = 0 })
 
 unfoldable opened : Unit {0}
 unfolding part_of part_step full_from reads settled after acts
@@ -34,7 +34,7 @@ opened = tt
 
 -- an abort while a turn is out: the turn is dropped
 abbrev aborted : List Entry
-aborted = Sent ask ∷ Taken ∷ Abort ∷ Given 1 2 1 false false ∷ Pulled ∷ Sent ask ∷ Taken ∷ Given 2 2 1 false true ∷ []
+aborted = Sent ask ∷ Taken ∷ Abort ∷ Given 1 2 1 false false ∷ Pulled 1 ∷ Sent ask ∷ Taken ∷ Given 2 2 1 false true ∷ []
 
 aborted_acts : acts (over_stops false three) aborted made ≡ Sends ask ∷ Struck ByAbort 1 0 0 ∷ Sends ask ∷ []
 unfolding opened

@@ -11,9 +11,10 @@ use Rattle.event_core.specs.declared.rest.Rest.{Rest}
 use Rattle.event_core.specs.Parts.{Part}
 use Rattle.event_core.specs.Laws.{StaysInside, replying}
 use Rattle.event_core.specs.Reaching.{IsBegun, IsWhole}
-use Rattle.event_core.specs.Standing.{chunk_of}
+use Rattle.event_core.specs.Standing.{chunk_of, style_of}
 use Rattle.event_core.specs.Texts.{quoted}
-use Rattle.event_core.specs.Fits.{fits, text_size}
+use Rattle.event_core.specs.Fits.{fits}
+use Rattle.event_core.specs.Names.{answer_term}
 use Rattle.event_core.proofs.Rising.{steps_never_fall}
 use Rattle.session.specs.Turns.{last_step, IsFull, Turned, Turns}
 use Rattle.session.specs.Views.{Gone, TurnView}
@@ -24,7 +25,7 @@ use Rattle.session.proofs.Turning.{Rises, rises, Reached, cut_from_part, in_reac
 up : (t : TurnView) → Rises (part_seen t).events
 up t =
     rises (part_seen t).events
-    (steps_never_fall (world_of t.clauses [] t.settings.limit) (fits quoted) (text_size quoted) t.query.asked.goal t.query.asked.template (chunk_of t.settings t.query.asked) t.query.requests)
+    (steps_never_fall (world_of t.program [] t.settings.limit) (fits quoted) (style_of t.settings t.query.asked) t.query.asked.goal (answer_term t.settings.names t.query.asked) (chunk_of t.settings t.query.asked) t.query.requests)
 
 is_some_if : {A : Type 0} (b : Bool) (x : A) (o : Option A) → o ≡ (if b then Some x else None) → is_some o ≡ b
 is_some_if true x o e = ap is_some e
@@ -37,7 +38,7 @@ none_if false o e = refl
 module _ (t : TurnView) (g : Gone) (b reaches : ℕ) (L : List (ℕ × Event)) (rest : Option Rest)
     (some : 0 < b) (room : 0 < t.room) (most : reaches ≤ t.steps + b) (all_steps : reaches < t.settings.limit → reaches ≡ t.steps + b)
     (known : MatchOption rest ((reaches < t.settings.limit) × IsBegun reaches L (part_seen t).events) (λ x. IsWhole (part_seen t) L x))
-    (left : rest ≡ None → StaysInside (replying (world_of t.clauses [] t.settings.limit) t.query.requests) t.query.asked.goal t.query.asked.template → length L < length (part_seen t).events)
+    (left : rest ≡ None → StaysInside (replying (world_of t.program [] t.settings.limit) t.query.requests) t.query.asked.goal (answer_term t.settings.names t.query.asked) → length L < length (part_seen t).events)
     (in_time : All (λ x. x.0 ≤ min reaches t.settings.limit) L)
     (events_are : g.events ≡ take t.room (drop t.events L)) (rest_is : g.rest ≡ (if (t.events + length g.events) == length L then rest else None)) where
   abbrev E : List (ℕ × Event)

@@ -5,8 +5,9 @@ use Rattle.event_core.specs.declared.request.Ask.{Ask}
 use Rattle.event_core.specs.declared.request.Request.{Request}
 use Rattle.event_core.specs.Full.{Spec}
 use Rattle.event_core.specs.Texts.{quoted}
-use Rattle.event_core.specs.Fits.{fits, text_size}
-use Rattle.event_core.specs.Standing.{spec_of, chunk_of}
+use Rattle.event_core.specs.Fits.{fits}
+use Rattle.event_core.specs.Names.{answer_term}
+use Rattle.event_core.specs.Standing.{spec_of, chunk_of, style_of}
 use Rattle.event_core.proofs.Refusing.{asked_stay_inside}
 use Rattle.session.specs.Laws.{KeptProgramsResolve, TurnsStartWell}
 use Rattle.session.proofs.Schedule.{Fitting, allowed, after_next, after_respond}
@@ -16,7 +17,8 @@ pub kept_programs_resolve : KeptProgramsResolve
 kept_programs_resolve cs s keeps = record {
   world = world_of cs [] s.limit;
   fits = fits quoted;
-  size = text_size quoted;
+  style = style_of s;
+  answer = λ a. answer_term s.names a;
   chunk = chunk_of s;
   is_part = λ a rs. refl;
   inside = λ a v rs. asked_stay_inside cs s a keeps v rs;

@@ -390,7 +390,7 @@ entry_enters spec budget (Sent r) p rs c x l h = record {
     stands = send_stands spec h.later (c + length h.before) r p.state p (reads spec h.before x) l.0 h.stands;
   };
 }
-entry_enters spec budget Pulled p rs c x l h = record {
+entry_enters spec budget (Pulled m) p rs c x l h = record {
   still = rs;
   done = c;
   reading = x;

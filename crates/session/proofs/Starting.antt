@@ -48,13 +48,13 @@ module _ (spec : Spec) (real : IsResolution spec) where
   up q =
       rises (events_of spec q)
       (subst (λ (p : Part). AllPairs (λ x y. x.0 ≤ y.0) p.events) (sym (real.is_part q.asked q.requests))
-      (steps_never_fall real.world real.fits real.size q.asked.goal q.asked.template (real.chunk q.asked) q.requests))
+      (steps_never_fall real.world real.fits real.style q.asked.goal (real.answer q.asked) (real.chunk q.asked) q.requests))
 
   further : (a : Ask) (rs more : List Request) → Begins (spec.part a rs).events (spec.part a (rs ++ more)).events
   further a rs more =
       subst (λ (p : Part). Begins p.events (spec.part a (rs ++ more)).events) (sym (real.is_part a rs))
-      (subst (λ (p : Part). Begins (part real.world real.fits real.size a.goal a.template (real.chunk a) rs).events p.events) (sym (real.is_part a (rs ++ more)))
-      (requests_only_add real.world real.fits real.size a.goal a.template (real.chunk a) rs more))
+      (subst (λ (p : Part). Begins (part real.world real.fits real.style a.goal (real.answer a) (real.chunk a) rs).events p.events) (sym (real.is_part a (rs ++ more)))
+      (requests_only_add real.world real.fits real.style a.goal (real.answer a) (real.chunk a) rs more))
 
   -- a query that runs, after n steps and e events
   pub record IsOn (q : Query) (n e : ℕ) : Type 0 where
@@ -206,7 +206,7 @@ module _ (spec : Spec) (real : IsResolution spec) where
 
   enters : (budget : ℕ) (e : Entry) (p : Pengine) → IsAllowed spec budget e p → Stands p → Stands (entered spec e p)
   enters budget (Sent r) p l h = h
-  enters budget Pulled p l h = h
+  enters budget (Pulled m) p l h = h
   enters budget Abort p l h = aborted p.state p h
   enters budget Destroy p l h = destroyed p.state p
   enters budget Taken p l h = h

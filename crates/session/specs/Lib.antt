@@ -4,6 +4,7 @@ pub mod Begun
 pub mod Kept
 pub mod Laws
 pub mod Legal
+pub mod Recorded
 pub mod Turns
 pub mod TurnsKept
 pub mod Views

@@ -1,5 +1,5 @@
 // A pengine as it is kept, entry by entry.
-ghost use Rattle.std.specs.Prelude.{◌≡◌, ◌≢◌, ◌+◌, ◌-◌, ◌<◌, ◌≤◌, ◌^◌, false, List as list, [], ◌∷◌, ◌++◌, map, length, Some, IfSome, IfNone, OnSome, IfOk, OnOk, OnErr, IsTrue, ◌↔◌};
+ghost use Rattle.std.specs.Prelude.{◌≡◌, ◌≢◌, min, take, drop, ◌+◌, ◌-◌, ◌<◌, ◌≤◌, ◌^◌, false, List as list, [], ◌∷◌, ◌++◌, map, length, Some, IfSome, IfNone, OnSome, IfOk, OnOk, OnErr, IsTrue, ◌↔◌};
 ghost use Rattle.event_core.specs.declared.event.Event.{Event};
 ghost use Rattle.event_core.specs.declared.rest.Rest.TheVariants as ending;
 ghost use Rattle.circular_buffer.specs.Buffer.{buffer};
@@ -67,7 +67,7 @@ impl Automaton {
         settings: Settings,
     ) -> Result<Automaton, Memory>
         ensures sound { IfOk result IsSound }
-        ensures clauses { IfOk result (λ a. a.program.value ≡ program.value) }
+        ensures program { IfOk result (λ a. a.program.value ≡ program.value) }
         ensures settings { IfOk result (λ a. a.settings ≡ settings) }
         ensures mailbox { IfOk result (λ a. a.mailbox.items ≡ []) }
         ensures seen { IfOk result (λ a. IsSeen (view_of a) made) }
@@ -118,7 +118,7 @@ impl Automaton {
         requires room { length self.old.queue.items < 64 }
         requires counted { self.old.number + length self.old.mailbox.items < self.old.accepted }
         requires fresh { query.requests ≡ [] }
-        requires clauses { query.program.value ≡ self.old.program.value }
+        requires program { query.program.value ≡ self.old.program.value }
         ensures sound { IsSound self.new }
         ensures does { Does (begins (spec_seen (view_of self.old)) query.ask refusal) (view_of self.old) (view_of self.new) }
     {
@@ -170,7 +170,7 @@ impl Automaton {
         requires rests { rest ≢ ending.Over }
         requires room { length self.old.queue.items < 64 }
         requires counted { self.old.number + length query.requests + length self.old.mailbox.items < self.old.accepted }
-        requires clauses { query.program.value ≡ self.old.program.value }
+        requires program { query.program.value ≡ self.old.program.value }
         ensures sound { IsSound self.new }
         ensures does { Does (λ p. fits (spec_seen (view_of self.old)) p.state letter.node p) (record (view_of self.old) { look = resting rest (query_of query) }) (view_of self.new) }
     {
@@ -329,13 +329,50 @@ impl Automaton {
         ensures some { IfSome result (λ r. (r.0 ≡ self.old.pulled) × ((rest : list Event) × (self.old.queue.items ≡ r.1 ∷ rest))) }
         ensures none { IfNone result ((self.old.queue.items ≡ []) × (self.new ≡ self.old)) }
         ensures sound { IsSound self.new }
-        ensures does { OnSome result (Enters Pulled (view_of self.old) (view_of self.new)) }
+        ensures does { OnSome result (Enters (Pulled 1) (view_of self.old) (view_of self.new)) }
     {
         let event = self.queue.pop_front()?;
         let number = self.pulled;
         self.pulled = number.saturating_add(1);
         self.settle();
         Some((number, event))
+    }
+
+    // Moves the events that wait, at most so many, to a list that has places for them.
+    fn move_out(&mut self, max: usize, events: &mut HeapCircularBuffer<Event>)
+        requires none { events.old.items ≡ [] }
+        requires places { max ≤ events.old.capacity }
+        ensures moved { events.new ≡ buffer (take max self.old.queue.items) events.old.capacity }
+        ensures left { self.new ≡ record self.old { queue = buffer (drop max self.old.queue.items) self.old.queue.capacity; pulled = min (self.old.pulled + min max (length self.old.queue.items)) (2 ^ 64 - 1) } }
+    {
+        for _ in 0..max {
+            let Some(event) = self.queue.pop_front() else {
+                return;
+            };
+            self.pulled = self.pulled.saturating_add(1);
+            put(events, event);
+        }
+    }
+
+    // The events that wait are handed out together, at most so many; for want of memory the pengine is as before.
+    pub(crate) fn pull_many(&mut self, max: usize) -> Result<Option<Waiting>, Memory>
+        requires sound { IsSound self.old }
+        requires some { 0 < max }
+        requires most { max ≤ 64 }
+        ensures sound { IsSound self.new }
+        ensures some { IfOk result (λ o. IfSome o (λ w. (w.first ≡ self.old.pulled) × (w.events ≡ take max self.old.queue.items) × (self.old.queue.items ≢ []))) }
+        ensures none { IfOk result (λ o. IfNone o ((self.old.queue.items ≡ []) × (self.new ≡ self.old))) }
+        ensures does { IfOk result (λ o. OnSome o (Enters (Pulled (min max (length self.old.queue.items))) (view_of self.old) (view_of self.new))) }
+        ensures refused { OnErr result (self.new ≡ self.old) }
+    {
+        let mut events = HeapCircularBuffer::with_capacity(self.alloc, max)?;
+        if self.queue.is_empty() {
+            return Ok(None);
+        }
+        let first = self.pulled;
+        self.move_out(max, &mut events);
+        self.settle();
+        Ok(Some(Waiting::new(first, events)))
     }
 
     // Accepts a request; for want of memory the pengine is as before.
@@ -357,7 +394,7 @@ impl Automaton {
     // The query is given to a turn, which may make as many events as there are places.
     fn hand_out(&mut self, query: Query) -> Turn
         requires room { length self.old.queue.items < 64 }
-        requires clauses { query.program.value ≡ self.old.program.value }
+        requires program { query.program.value ≡ self.old.program.value }
         ensures turn { result ≡ turn_at (view_of self.old) (query_of query) }
         ensures state { self.new ≡ record self.old { state = at.Out (64 - length self.old.queue.items) (length query.requests) } }
     {

@@ -1,23 +1,23 @@
-ghost use Rattle.std.specs.Prelude.{◌≡◌, ◌≢◌, ◌≤◌, [], ◌++◌, length, drop, IfOk, OnOk, OnErr, IsTrue, ◌↔◌, false, Err, Some};
+ghost use Rattle.std.specs.Prelude.{◌≡◌, ◌≢◌, ◌≤◌, ◌<◌, min, [], ◌++◌, length, drop, IfOk, OnOk, OnErr, IsTrue, ◌↔◌, false, Err, Some};
 ghost use Rattle.session.specs.declared.answers.SendFault.TheVariants as fault;
 ghost use Rattle.session.specs.After.{Sent, Pulled as Pull, Abort, Destroy, Taken, Given as GivenBack, Pengine, after_entry, most_requests};
-ghost use Rattle.session.specs.Answers.{is_ended, pulls, takes, is_turn, ready, last_of, gives};
+ghost use Rattle.session.specs.Answers.{is_ended, is_gone, pulls, pulls_many, takes, is_turn, ready, last_of, gives};
 ghost use Rattle.session.specs.Views.{Ended, IsSeen, Enters, taken, spec_seen, Gone, IsTurnOf};
 ghost use Rattle.session.specs.TurnsKept.{Keeps};
 ghost use Rattle.session.specs.declared.answers.Given.TheVariants as given;
 ghost use Rattle.session.specs.Begun.{IsBegun};
 
-use crate::answers::{Given, Pulled, SendFault};
+use crate::answers::{Given, Pulled, PulledMany, SendFault};
 use crate::automaton::{Automaton, MOST_REQUESTS, MOST_WAITING};
 use crate::state::State;
 use crate::took::Took;
 use crate::turn::Turn;
-use event_core::{Request, Settings, Spec, Waiting};
+use event_core::{Request, Spec, Waiting};
 use std::alloc::Global;
 use std::marker::Model;
 use term_core::Memory;
 
-/// One pengine (Lager and Wielemaker, TPLP 2014), whose turns run outside. Contracts see it as a view: its clauses and settings,
+/// One pengine (Lager and Wielemaker, TPLP 2014), whose turns run outside. Contracts see it as a view: its program and settings,
 /// where it stands, the requests and events that wait, and the counts of its latest query.
 #[derive(Debug, Drop)]
 pub struct Session {
@@ -49,16 +49,9 @@ impl Session {
         let Spec {
             program,
             ask,
-            chunk,
-            limit,
-            destroy,
+            settings,
             bytes: _,
         } = spec;
-        let settings = Settings {
-            chunk,
-            limit,
-            destroys: destroy,
-        };
         let mut automaton = Automaton::new(alloc, program, settings)?;
         match ask {
             None => Ok(Session { automaton }),
@@ -92,7 +85,7 @@ impl Session {
     /// Hands out the next event, where one waits.
     pub fn pull(&mut self) -> Pulled
         ensures answer { result ≡ pulls self.old }
-        ensures pulled { self.old.queue ≢ [] → Enters Pull self.old self.new }
+        ensures pulled { self.old.queue ≢ [] → Enters (Pull 1) self.old self.new }
         ensures none { self.old.queue ≡ [] → self.new ≡ self.old }
     {
         match self.automaton.pull() {
@@ -102,6 +95,28 @@ impl Session {
                     Pulled::Ended
                 } else {
                     Pulled::Pending
+                }
+            }
+        }
+    }
+
+    /// Hands out the events that wait, at most `max` of them, which is from 1 to 64. The memory of their list is taken first:
+    /// for want of it the pengine is as before.
+    pub fn pull_many(&mut self, max: u32) -> Result<PulledMany, Memory>
+        requires some { 0 < max }
+        requires most { max ≤ 64 }
+        ensures answer { IfOk result (λ r. r ≡ pulls_many max self.old) }
+        ensures pulled { OnOk result (self.old.queue ≢ [] → Enters (Pull (min max (length self.old.queue))) self.old self.new) }
+        ensures none { self.old.queue ≡ [] → self.new ≡ self.old }
+        ensures refused { OnErr result (self.new ≡ self.old) }
+    {
+        match self.automaton.pull_many(max as usize)? {
+            Some(waiting) => Ok(PulledMany::Events(waiting)),
+            None => {
+                if self.ended() {
+                    Ok(PulledMany::Ended)
+                } else {
+                    Ok(PulledMany::Pending)
                 }
             }
         }
@@ -148,6 +163,13 @@ impl Session {
         ensures { result ≡ is_ended self.now.look }
     {
         self.automaton.has_ended()
+    }
+
+    /// Whether the pengine has ended and all its events were pulled.
+    pub fn is_gone(&self) -> bool
+        ensures { result ≡ is_gone self.now }
+    {
+        self.automaton.has_ended() && self.automaton.queue.is_empty()
     }
 
     /// Whether `take` would give a turn.

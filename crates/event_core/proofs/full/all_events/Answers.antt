@@ -10,6 +10,6 @@ pub returns : goal.returns
 returns c =
     let none : into_iter_items c.loop-request.request-iterator ≡ [] = nil_from_length _ (sym c.loop-request.request-iterator.rest.ok.0 ∙ c.in-None.ensures.steps.0) in
     sym (append-nil c.loop-request.events)
-    ∙ ap (λ l. c.loop-request.events ++ brings (spec_of c.loop-request.pengine.clauses c.loop-request.pengine.settings) l c.loop-request.pengine.place) (sym none)
+    ∙ ap (λ l. c.loop-request.events ++ brings (spec_of c.loop-request.pengine.program c.loop-request.pengine.settings) l c.loop-request.pengine.place) (sym none)
     ∙ c.loop-request.invariant.events
     ∙ sym (full_is_brought (spec_of c.args.program.value c.args.settings) c.args.requests.items)

@@ -7,8 +7,8 @@ use Rattle.event_core.proofs.full.all_events.Given as goal
 
 abbrev pub invariant-loop-request : goal.invariant-loop-request
 invariant-loop-request l = record {
-  clauses : l.pengine.clauses ≡ l.initial.pengine.clauses;
+  program : l.pengine.program ≡ l.initial.pengine.program;
   settings : l.pengine.settings ≡ l.initial.pengine.settings;
-  events : l.events ++ brings (spec_of l.pengine.clauses l.pengine.settings) (into_iter_items l.request-iterator) l.pengine.place
+  events : l.events ++ brings (spec_of l.pengine.program l.pengine.settings) (into_iter_items l.request-iterator) l.pengine.place
       ≡ Create ∷ brings (spec_of l.fn.program.value l.fn.settings) l.fn.requests.items Free;
 }

@@ -34,7 +34,7 @@ module _ (a : Automaton) (t : Inside) (room further : ℕ) (present : IsPresent 
   kept_by : (g : Gone) → gone_of t.gone ≡ Some g → Keeps (view_of a) (turn_view t) g b
   kept_by g e =
       subst (λ z. Keeps (view_of a) (turn_view t) z b) (inside_some (gone_view k) g (ap gone_of (sym some) ∙ e))
-      (keeps (view_of a) (turn_view t) t.query k (subst (λ o. IsGoneAt (turn_view t) (gone_of o)) some known) present.clauses present.settings present.events refl v b turns settles)
+      (keeps (view_of a) (turn_view t) t.query k (subst (λ o. IsGoneAt (turn_view t) (gone_of o)) some known) present.program present.settings present.events refl v b turns settles)
 
 present_at : (c : goal.Joined-drop) (room further : ℕ) → c.args.self.now.state ≡ Out room further → IsPresent (view_of c.args.self.now) (turn_view c.turn.inside) room further
 present_at c room further is =

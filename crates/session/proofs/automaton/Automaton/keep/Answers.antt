@@ -58,7 +58,7 @@ returns-in-None-clause-sound c =
     let e : c.wait.new.self ≡ advanced c.args.gone c.args.self.now = waited c.args.self.now c.args.gone c.len.result c.wait.new.self c.len.ensures c.wait.ensures in
     let r : length (advanced c.args.gone c.args.self.now).queue.items ≤ 64 = advanced_room c.args.self.now c.args.query c.args.gone c.requires.sound c.requires.back in
     let k : record c.wait.new.self { state = at.Running c.args.query } ≡ record (advanced c.args.gone c.args.self.now) { state = at.Running c.args.query } = ap (λ (z : Automaton). record z { state = at.Running c.args.query }) e in
-    subst IsSound (sym k) (running_sound c.args.query (advanced c.args.gone c.args.self.now) (advanced_fair c.args.self.now c.args.query c.args.gone c.requires.sound c.requires.back) r (advanced_count c.args.self.now c.args.query c.args.gone c.requires.sound c.requires.back) c.requires.back.clauses)
+    subst IsSound (sym k) (running_sound c.args.query (advanced c.args.gone c.args.self.now) (advanced_fair c.args.self.now c.args.query c.args.gone c.requires.sound c.requires.back) r (advanced_count c.args.self.now c.args.query c.args.gone c.requires.sound c.requires.back) c.requires.back.program)
 
 pub returns-in-None-clause-turns : goal.returns-in-None-clause-turns
 returns-in-None-clause-turns c =
@@ -71,7 +71,7 @@ returns-in-Some-More-clause-sound c =
     let e : c.wait.new.self ≡ advanced c.args.gone c.args.self.now = waited c.args.self.now c.args.gone c.len.result c.wait.new.self c.len.ensures c.wait.ensures in
     let r : length (advanced c.args.gone c.args.self.now).queue.items ≤ 64 = advanced_room c.args.self.now c.args.query c.args.gone c.requires.sound c.requires.back in
     let k : record c.wait.new.self { state = at.More c.args.query } ≡ record (advanced c.args.gone c.args.self.now) { state = at.More c.args.query } = ap (λ (z : Automaton). record z { state = at.More c.args.query }) e in
-    subst IsSound (sym k) (rests_sound rest.More c.args.query (advanced c.args.gone c.args.self.now) (advanced_fair c.args.self.now c.args.query c.args.gone c.requires.sound c.requires.back) r (advanced_count c.args.self.now c.args.query c.args.gone c.requires.sound c.requires.back) c.requires.back.clauses)
+    subst IsSound (sym k) (rests_sound rest.More c.args.query (advanced c.args.gone c.args.self.now) (advanced_fair c.args.self.now c.args.query c.args.gone c.requires.sound c.requires.back) r (advanced_count c.args.self.now c.args.query c.args.gone c.requires.sound c.requires.back) c.requires.back.program)
 
 pub returns-in-Some-More-clause-turns : goal.returns-in-Some-More-clause-turns
 returns-in-Some-More-clause-turns c =
@@ -84,7 +84,7 @@ returns-in-Some-Prompting-clause-sound c =
     let e : c.wait.new.self ≡ advanced c.args.gone c.args.self.now = waited c.args.self.now c.args.gone c.len.result c.wait.new.self c.len.ensures c.wait.ensures in
     let r : length (advanced c.args.gone c.args.self.now).queue.items ≤ 64 = advanced_room c.args.self.now c.args.query c.args.gone c.requires.sound c.requires.back in
     let k : record c.wait.new.self { state = at.Prompting c.args.query } ≡ record (advanced c.args.gone c.args.self.now) { state = at.Prompting c.args.query } = ap (λ (z : Automaton). record z { state = at.Prompting c.args.query }) e in
-    subst IsSound (sym k) (rests_sound rest.Prompting c.args.query (advanced c.args.gone c.args.self.now) (advanced_fair c.args.self.now c.args.query c.args.gone c.requires.sound c.requires.back) r (advanced_count c.args.self.now c.args.query c.args.gone c.requires.sound c.requires.back) c.requires.back.clauses)
+    subst IsSound (sym k) (rests_sound rest.Prompting c.args.query (advanced c.args.gone c.args.self.now) (advanced_fair c.args.self.now c.args.query c.args.gone c.requires.sound c.requires.back) r (advanced_count c.args.self.now c.args.query c.args.gone c.requires.sound c.requires.back) c.requires.back.program)
 
 pub returns-in-Some-Prompting-clause-turns : goal.returns-in-Some-Prompting-clause-turns
 returns-in-Some-Prompting-clause-turns c =

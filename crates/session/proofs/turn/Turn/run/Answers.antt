@@ -1,7 +1,8 @@
 use Rattle.std.proofs.Common.{◌≡◌, ◌∙◌, ℕ, ◌+◌, ◌^◌, ◌<◌, ◌==◌, ◌||◌, if◌then◌else◌, false, ap, subst, length, List, [], None}
 use Rattle.std.specs.Option.{MatchOption, is_some}
-use Rattle.program.specs.Clauses.{Clause}
+use Rattle.program.specs.Loaded.{Loaded}
 use Rattle.solve_model.specs.Trace.{world_of}
+use Rattle.event_core.specs.Names.{answer_term}
 use Rattle.event_core.specs.declared.event.Event.{Event}
 use Rattle.event_core.specs.declared.request.Request.{Request}
 use Rattle.event_core.specs.Laws.{StaysInside, replying}
@@ -23,20 +24,20 @@ made c = record { steps = c.steps_of.result; events = c.in_ok-events-2.events; s
 requests_are : (c : goal.After-drop-requests-2) → c.as_slice.result.now ≡ (turn c).query.requests
 requests_are c = c.as_slice.ensures.value ∙ c.in_ok-requests.ensures
 
-abbrev Known : goal.After-drop-requests-2 → List Clause → List Request → Type 0
+abbrev Known : goal.After-drop-requests-2 → Loaded → List Request → Type 0
 Known c cs rs =
     MatchOption c.in_ok-events.field-0.rest ((c.reach_of-reaches.result < (turn c).settings.limit) × IsBegun c.reach_of-reaches.result c.in_ok-events.field-0.events ((spec_of cs (turn c).settings).part (turn c).query.asked rs).events)
     (λ x. IsWhole ((spec_of cs (turn c).settings).part (turn c).query.asked rs) c.in_ok-events.field-0.events x)
 
-abbrev Left : goal.After-drop-requests-2 → List Clause → List Request → Type 0
+abbrev Left : goal.After-drop-requests-2 → Loaded → List Request → Type 0
 Left c cs rs =
-    c.in_ok-events.field-0.rest ≡ None → StaysInside (replying (world_of cs [] (turn c).settings.limit) rs) (turn c).query.asked.goal (turn c).query.asked.template →
+    c.in_ok-events.field-0.rest ≡ None → StaysInside (replying (world_of cs [] (turn c).settings.limit) rs) (turn c).query.asked.goal (answer_term (turn c).settings.names (turn c).query.asked) →
     length c.in_ok-events.field-0.events < length ((spec_of cs (turn c).settings).part (turn c).query.asked rs).events
 
-known : (c : goal.After-drop-requests-2) → Known c (turn c).clauses (turn c).query.requests
+known : (c : goal.After-drop-requests-2) → Known c (turn c).program (turn c).query.requests
 known c = subst (λ cs. Known c cs (turn c).query.requests) c.deref.ensures (subst (λ rs. Known c c.deref.result.now rs) (requests_are c) c.in_ok-events.ensures.events)
 
-left : (c : goal.After-drop-requests-2) → Left c (turn c).clauses (turn c).query.requests
+left : (c : goal.After-drop-requests-2) → Left c (turn c).program (turn c).query.requests
 left c = subst (λ cs. Left c cs (turn c).query.requests) c.deref.ensures (subst (λ rs. Left c c.deref.result.now rs) (requests_are c) c.in_ok-events.ensures.left)
 
 after_is : (c : goal.After-drop-requests-2) → c.in_ok-after.after ≡ (turn c).events + length c.in_ok-events-2.events
