@@ -82,11 +82,11 @@ not_both true e k = cc
 not_both false e k = cc
 
 -- no clause is of a reserved predicate
-pub none_reserved : (rows : Rows) (i : Pi) → IsTrue (is_reserved rows i) → (cs : List Clause) → list_all clause_keeps rows cs ≡ true → clauses_of i cs ≡ []
+pub none_reserved : (rows : Rows) (i : Pi) → IsTrue (is_reserved rows i) → (cs : List Clause) → list_all (clause_keeps rows) cs ≡ true → clauses_of i cs ≡ []
 unfolding clauses_of
 none_reserved rows i r [] k = refl
 none_reserved rows i r (c ∷ cs) k =
-    let q = and_parts (clause_keeps rows c) (list_all clause_keeps rows cs) k in
+    let q = and_parts (clause_keeps rows c) (list_all (clause_keeps rows) cs) k in
     by (is_for i c.head) refl q.0 (none_reserved rows i r cs q.1)
   where
     by : (b : Bool) → is_for i c.head ≡ b → clause_keeps rows c ≡ true → clauses_of i cs ≡ [] → (if b then c ∷ clauses_of i cs else clauses_of i cs) ≡ []
@@ -105,11 +105,11 @@ module _ (rows : Rows) (m : May) (may : (i : Pi) → IsTrue (is_known i) → m i
       by false false a b h = cc
 
   -- the clauses of a library's predicate that runs goals pass on what they are given
-  pub all_pass : (cs : List Clause) → list_all clause_keeps rows cs ≡ true → (list_any (λ c. c.own) (clauses_of i cs) ≡ false) ⊎ (begins_with_dollar i.name ≡ true) → AllPassOn m (run_kinds rows) (clauses_of i cs)
+  pub all_pass : (cs : List Clause) → list_all (clause_keeps rows) cs ≡ true → (list_any (λ c. c.own) (clauses_of i cs) ≡ false) ⊎ (begins_with_dollar i.name ≡ true) → AllPassOn m (run_kinds rows) (clauses_of i cs)
   unfolding clauses_of
   all_pass [] k o = tt
   all_pass (c ∷ cs) k o =
-      let q = and_parts (clause_keeps rows c) (list_all clause_keeps rows cs) k in
+      let q = and_parts (clause_keeps rows c) (list_all (clause_keeps rows) cs) k in
       by (is_for i c.head) refl o (all_pass cs q.1) q.0
     where
       by : (b : Bool) → is_for i c.head ≡ b → (list_any (λ x. x.own) (if b then c ∷ clauses_of i cs else clauses_of i cs) ≡ false) ⊎ (begins_with_dollar i.name ≡ true) →

@@ -17,6 +17,7 @@ mod texts;
 mod unsafe_goal;
 mod verdict;
 
+pub use kinds::table_of;
 pub use laws::{
     loaded_programs_keep_the_sandbox, passed_goals_stay_inside, safe_goals_stay_inside,
     the_verdict_is_one,

@@ -6,8 +6,8 @@ ghost use Rattle.sandbox_walk.specs.Passes.{opens as is_open};
 ghost use Rattle.sandbox_walk.specs.Verdict.{in_predicate};
 
 use crate::found::{Found, Stands};
+use crate::kinds::table_of;
 use crate::reach::in_clauses;
-use builtin_table::Table;
 use program::Program;
 use std::alloc::Global;
 use term_core::{Memory, Pi};
@@ -17,7 +17,7 @@ use term_core::{Memory, Pi};
 pub fn goals_are_bodies(alloc: Global, p: &Program, pi: &Pi) -> Result<bool, Memory>
     ensures { IfOk result (λ b. b ≡ list_all is_open (in_predicate (rows_of_app p.now.app) p.now.clauses pi.now)) }
 {
-    let table = Table::of(alloc, p.app())?;
+    let table = table_of(alloc, p)?;
     let found = in_clauses(alloc, &table, p.clauses(pi))?;
     Ok(all_open(&found))
 }

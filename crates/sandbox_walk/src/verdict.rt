@@ -4,11 +4,11 @@ ghost use Rattle.sandbox_walk.specs.Passes.{PassesOver};
 ghost use Rattle.sandbox_walk.specs.Sound.{StaysInside};
 ghost use Rattle.sandbox_walk.specs.Verdict.{VerdictOver, RefusesOver};
 
+use crate::kinds::table_of;
 use crate::reach::reached;
 use crate::refusal::{first_closed, has_unbound, least_outside};
 use crate::texts::all_shown;
 use crate::unsafe_goal::Unsafe;
-use builtin_table::Table;
 use program::Program;
 use std::alloc::Global;
 use std::sync::Arc;
@@ -44,7 +44,7 @@ pub fn check(alloc: Global, p: &Arc<Program>, goal: &Term) -> Result<Passed, Uns
     ensures goal { IfOk result (λ q. q.goal ≡ goal.now) }
     ensures refused { IfErr result (RefusesOver p.now.value goal.now) }
 {
-    let table = Table::of(alloc, p.app())?;
+    let table = table_of(alloc, p)?;
     let reached = reached(alloc, &table, p, goal)?;
     let shown = all_shown(alloc, &table, p, goal, &reached)?;
     if let Some(pi) = least_outside(&table, &shown) {
