@@ -1,5 +1,6 @@
 pub mod Arithmetic
 pub mod Errors
+pub mod Integers
 pub mod Lists
 pub mod Numbers
 pub mod Outcomes
