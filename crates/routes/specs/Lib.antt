@@ -1,0 +1,5 @@
+pub mod Paths
+pub mod Params
+pub mod Asked
+pub mod Creations
+pub mod Refusals
