@@ -73,7 +73,7 @@ module _ (style : Style) where
   fitting_reads ps c Done (Next d) e rs = cc
 
   -- a reader that rests gives nothing where the next request doesn't fit
-  quiet : Stand → List Request → Part
+  abbrev quiet : Stand → List Request → Part
   quiet s rs = record { events = []; rest = unwrap_or (rest_of s) Over; unread = rs }
 
   stays : (ps : StopList) (c : ℕ) (s : Stand) → is_some (rest_of s) ≡ true → (rs : List Request) → resumes s rs ≡ false → ahead_at style s c ps rs ≡ quiet s rs
@@ -119,11 +119,13 @@ read_brings old new held e k s m is becomes qs rs =
     ∙ ap (λ y. tells (listed m.event) (ahead y qs rs)) (sym becomes)
 
 -- a reader that rests, after a request that fits
-pub resume_brings : (old new : Reader) (r : Request) → is_fitting old.stand r ≡ true → (m : Moved) → m ≡ after_fitting (style_with old.names) (chunk_after r old.chunk) old.stand →
-    new ≡ record { chunk = chunk_after r old.chunk; names = old.names; stand = m.stand } → (qs : StopList) (rs : List Request) → ahead old qs (r ∷ rs) ≡ tells (listed m.event) (ahead new qs rs)
-resume_brings old new r fits m is becomes qs rs =
+pub resume_brings : (old new : Reader) (r : Request) → is_fitting old.stand r ≡ true → (c : ℕ) → c ≡ chunk_after r old.chunk → (s : Stand) → s ≡ old.stand → (m : Moved) → m ≡ after_fitting (style_with old.names) c s →
+    new ≡ record { chunk = c; names = old.names; stand = m.stand } → (qs : StopList) (rs : List Request) → ahead old qs (r ∷ rs) ≡ tells (listed m.event) (ahead new qs rs)
+resume_brings old new r fits c chunk s stand m is becomes qs rs =
     fitting_reads (style_with old.names) qs old.chunk old.stand r fits rs
-    ∙ ap (λ x. behind (style_with old.names) (chunk_after r old.chunk) x qs rs) (sym is)
+    ∙ ap (λ k. behind (style_with old.names) k (after_fitting (style_with old.names) k old.stand) qs rs) (sym chunk)
+    ∙ ap (λ x. behind (style_with old.names) c (after_fitting (style_with old.names) c x) qs rs) (sym stand)
+    ∙ ap (λ x. behind (style_with old.names) c x qs rs) (sym is)
     ∙ ap (λ y. tells (listed m.event) (ahead y qs rs)) (sym becomes)
 
 -- ---- over prefixes
