@@ -67,11 +67,11 @@ number_at (suc k) (n ∷ ns) = number_at k ns
 
 back : (n : ℕ) (ns : List ℕ) → is_among n ns ≡ true → number_at (place_of n ns) ns ≡ n
 back n [] h = absurd (false≢true h)
-back n (m ∷ ms) h = by (m == n) refl h
+back n (m ∷ ms) h = by (m == n) refl h (back n ms)
   where
-    by : (b : Bool) → (m == n) ≡ b → (b || is_among n ms) ≡ true → number_at (cond b 0 (suc (place_of n ms))) (m ∷ ms) ≡ n
-    by true e k = eqb-true m n e
-    by false e k = back n ms k
+    by : (b : Bool) → (m == n) ≡ b → (b || is_among n ms) ≡ true → (is_among n ms ≡ true → number_at (place_of n ms) ms ≡ n) → number_at (cond b 0 (suc (place_of n ms))) (m ∷ ms) ≡ n
+    by true e k go = eqb-true m n e
+    by false e k go = go k
 
 -- ---- numbers that stand for others, one for one: g leads back
 
