@@ -103,6 +103,10 @@ module _ (style : Style) where
 pub tells_twice : (es fs : Steps) (p : Part) → tells es (tells fs p) ≡ tells (es ++ fs) p
 tells_twice es fs p = ap (λ (l : Steps). let q : Part = record p { events = l } in q) (sym (append_assoc es fs p.events))
 
+-- with the event that comes, if one comes, behind the others
+pub tells_more : (old new : Steps) (p q : Part) (e : Option (ℕ × Event)) → p ≡ tells (listed e) q → new ≡ old ++ listed e → tells old p ≡ tells new q
+tells_more old new p q e h k = ap (tells old) h ∙ tells_twice old (listed e) q ∙ ap (λ es. tells es q) (sym k)
+
 pub tells_none : (es : Steps) (x : Rest) (rs : List Request) → tells es (record { events = []; rest = x; unread = rs }) ≡ record { events = es; rest = x; unread = rs }
 tells_none es x rs = ap (λ (l : Steps). let q : Part = record { events = l; rest = x; unread = rs } in q) (append-nil es)
 

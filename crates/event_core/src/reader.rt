@@ -228,6 +228,7 @@ impl Reader {
         requires reads { rest_of self.old.stand ≡ None }
         ensures brings { IfOk result (λ e. (qs : list (ℕ × SpecStop)) (more : list SpecRequest) → ahead self.old ((step, stop) ∷ qs) more ≡ tells (listed e) (ahead self.new qs more)) }
         ensures given { IfOk result (λ e. (ns : option (list (list ℕ))) (c : ℕ) (ps : list (ℕ × SpecStop)) (rs : list SpecRequest) (es : list (ℕ × SpecEvent)) → HasGiven ns c ps rs es self.old → HasGiven ns c (ps ++ (step, stop) ∷ []) rs (es ++ listed e) self.new) }
+        ensures names { self.new.names ≡ self.old.names }
     {
         let stand = mem::replace(&mut self.stand, Stand::Done);
         let Stand::Reading(held) = stand else {
@@ -248,6 +249,7 @@ impl Reader {
         requires fits { is_fitting self.old.stand request.now ≡ true }
         ensures brings { IfOk result (λ e. (qs : list (ℕ × SpecStop)) (more : list SpecRequest) → ahead self.old qs (request.now ∷ more) ≡ tells (listed e) (ahead self.new qs more)) }
         ensures given { IfOk result (λ e. (ns : option (list (list ℕ))) (c : ℕ) (ps : list (ℕ × SpecStop)) (rs : list SpecRequest) (es : list (ℕ × SpecEvent)) → HasGiven ns c ps rs es self.old → HasGiven ns c ps (rs ++ request.now ∷ []) (es ++ listed e) self.new) }
+        ensures names { self.new.names ≡ self.old.names }
     {
         let stand = mem::replace(&mut self.stand, Stand::Done);
         self.chunk = request.chunk_after(self.chunk);
