@@ -15,6 +15,7 @@ use Rattle.event_core.specs.declared.rest.Rest.{Rest}
 use Rattle.event_core.specs.declared.rest.Rest.TheVariants.{Over}
 use Rattle.event_core.specs.Requests.{chunk_after}
 use Rattle.event_core.specs.Parts.{Part, Style, gives, at_next, is_full, part_of, part_step}
+use Rattle.event_core.specs.Reaching.{ReadsOn}
 use Rattle.event_core.specs.Readers.{moves, after_stop, after_fitting, rest_of, is_fitting, resumes, ahead_at, style_with, ahead, tells, listed, HasGiven, RestsAsThePart}
 
 abbrev StopList : Type 0
@@ -109,6 +110,29 @@ tells_more old new p q e h k = ap (tells old) h ∙ tells_twice old (listed e) q
 
 pub tells_none : (es : Steps) (x : Rest) (rs : List Request) → tells es (record { events = []; rest = x; unread = rs }) ≡ record { events = es; rest = x; unread = rs }
 tells_none es x rs = ap (λ (l : Steps). let q : Part = record { events = l; rest = x; unread = rs } in q) (append-nil es)
+
+is_reading : (s : Stand) → rest_of s ≡ None → (held : List Tree) × (s ≡ Reading held)
+is_reading (Reading held) e = (held, refl)
+is_reading (Paused p) e = cc
+is_reading Waiting e = cc
+is_reading Done e = cc
+
+-- What was read, where no request goes on: at a rest the stops that are left don't matter, and otherwise none are left.
+pub reads_on : (es : Steps) (r : Reader) (ps : StopList) (left : List Request) (T : StopList → Part) → ((qs : StopList) → T qs ≡ tells es (ahead r (ps ++ qs) left)) → resumes r.stand left ≡ false →
+    (rest : Option Rest) → rest_of r.stand ≡ rest → (rest ≡ None → ps ≡ []) → (ns : Option (List (List ℕ))) → r.names ≡ ns → ReadsOn es rest ns T
+reads_on es r ps left T h f (Some x) e n ns same =
+    (left, λ qs. h qs ∙ ap (tells es) (resting (style_with r.names) (ps ++ qs) r.chunk r.stand x e left f) ∙ tells_none es x left)
+reads_on es r ps left T h f None e n ns same =
+    let s : (held : List Tree) × (r.stand ≡ Reading held) = is_reading r.stand e in (
+      r.chunk,
+      s.0,
+      left,
+      λ qs.
+          h qs
+          ∙ ap (λ l. tells es (ahead r (l ++ qs) left)) (n refl)
+          ∙ ap (λ x. tells es (ahead_at (style_with r.names) x r.chunk qs left)) s.1
+          ∙ ap (λ y. tells es (part_of (style_with y) qs r.chunk s.0 left)) same,
+    )
 
 -- ---- one stop, one request
 
