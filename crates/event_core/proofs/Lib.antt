@@ -1,5 +1,6 @@
 pub mod Chunks
 pub mod Coming
+pub mod Covering
 pub mod Cutting
 pub mod Ending
 pub mod Growing
