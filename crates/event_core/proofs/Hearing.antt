@@ -18,7 +18,7 @@ use Rattle.event_core.specs.Laws.{replying}
 use Rattle.event_core.specs.Summaries.{IsComplete}
 use Rattle.event_core.specs.declared.local.End.TheVariants as local
 use Rattle.event_core.specs.declared.local.Answers.{Answers}
-use Rattle.event_core.specs.Local.{ended, none_left, local_step, local_from, heard_step, heard_from, as_told, tellings, ReadsAreLocal}
+use Rattle.event_core.specs.Local.{ended, none_left, local_step, local_from, heard_from, tellings, ReadsAreLocal}
 use Rattle.event_core.proofs.Ending.{query_ends}
 
 -- both come to the same answers and end

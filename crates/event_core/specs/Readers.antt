@@ -14,7 +14,7 @@ use Rattle.event_core.specs.declared.fit.Fit.TheVariants.{GoesOn}
 use Rattle.event_core.specs.declared.request.Request.{Request}
 use Rattle.event_core.specs.declared.rest.Rest.{Rest}
 use Rattle.event_core.specs.declared.rest.Rest.TheVariants.{More, Prompting, Over}
-use Rattle.event_core.specs.Requests.{fit, chunk_after}
+use Rattle.event_core.specs.Requests.{fit}
 use Rattle.event_core.specs.Texts.{quoted}
 use Rattle.event_core.specs.Fits.{text_size}
 use Rattle.event_core.specs.Parts.{Part, Style, rests, at_next, at_respond, is_full, part_of}

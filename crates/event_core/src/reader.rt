@@ -129,13 +129,7 @@ impl Reader {
     }
 
     // An answer joins the open chunk, which is closed where it is the last answer or the chunk is full.
-    fn answer(
-        &self,
-        alloc: Global,
-        step: u64,
-        held: Chunk,
-        more: bool,
-    ) -> Result<Moved, Memory>
+    fn answer(&self, alloc: Global, step: u64, held: Chunk, more: bool) -> Result<Moved, Memory>
         ensures { IfOk result (λ m. m ≡ answered (style_with self.now.names) self.now.chunk step held more) }
     {
         if !more {
@@ -173,13 +167,7 @@ impl Reader {
     }
 
     // What a stop does to an open chunk.
-    fn after_stop(
-        &self,
-        alloc: Global,
-        step: u64,
-        stop: Stop,
-        held: Chunk,
-    ) -> Result<Moved, Memory>
+    fn after_stop(&self, alloc: Global, step: u64, stop: Stop, held: Chunk) -> Result<Moved, Memory>
         ensures { IfOk result (λ m. m ≡ after_stop (style_with self.now.names) self.now.chunk step stop held) }
     {
         let is_open = !held.is_empty();

@@ -1,4 +1,4 @@
-use Rattle.std.proofs.Common.{◌≡◌, ◌∙◌, ap, sym, [], length, min}
+use Rattle.std.proofs.Common.{◌∙◌, ap, sym, [], length, min}
 use Rattle.solve_model.specs.Trace.{world_of}
 use Rattle.event_core.specs.Texts.{quoted}
 use Rattle.event_core.specs.Fits.{fits}
@@ -6,8 +6,6 @@ use Rattle.event_core.specs.Names.{answer_term, names_told}
 use Rattle.event_core.specs.Endings.{HasEnd}
 use Rattle.event_core.specs.Laws.{replying}
 use Rattle.event_core.specs.Parts.{part, replies}
-use Rattle.event_core.specs.Readers.{ahead}
-use Rattle.event_core.specs.declared.reader.Reader.{Reader}
 use Rattle.event_core.specs.declared.reader.Stand.TheVariants.{Reading}
 use Rattle.event_core.specs.Standing.{chunk_of, stops_for}
 use Rattle.event_core.proofs.Ending.{query_ends}

@@ -1,8 +1,8 @@
-use Rattle.std.proofs.Common.{◌≡◌, ◌∙◌, ap, sym, [], ◌∷◌, ◌++◌, Bool, true, false, None, is_some}
+use Rattle.std.proofs.Common.{◌≡◌, ◌∙◌, ap, sym, [], ◌∷◌, ◌++◌, None, is_some}
 use Rattle.std.proofs.lemmas.Bool.{false≢true}
 use Rattle.std.proofs.lemmas.List.{nil_from_length}
 use Rattle.std.specs.Vec.Iter.{into_iter_items}
-use Rattle.event_core.specs.Readers.{rest_of, ahead, tells}
+use Rattle.event_core.specs.Readers.{ahead, tells}
 use Rattle.event_core.proofs.Readers.{tells_more, reads_on}
 use Rattle.event_core.proofs.reached.read_stops.Goals as goal
 use Rattle.event_core.proofs.reached.read_stops.Goals.{in-None, in-Some+then-is_some}

@@ -1,4 +1,4 @@
-use Rattle.std.proofs.Common.{◌∙◌, refl, sym}
+use Rattle.std.proofs.Common.{refl}
 use Rattle.event_core.proofs.Readers.{resume_brings, request_given}
 use Rattle.event_core.proofs.reader.Reader.resume.Goals as goal
 
