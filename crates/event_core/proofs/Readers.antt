@@ -16,7 +16,7 @@ use Rattle.event_core.specs.declared.rest.Rest.TheVariants.{Over}
 use Rattle.event_core.specs.Requests.{chunk_after}
 use Rattle.event_core.specs.Parts.{Part, Style, gives, at_next, is_full, part_of, part_step}
 use Rattle.event_core.specs.Reaching.{ReadsOn}
-use Rattle.event_core.specs.Readers.{moves, after_stop, after_fitting, rest_of, is_fitting, resumes, ahead_at, style_with, ahead, tells, listed, HasGiven, RestsAsThePart}
+use Rattle.event_core.specs.Readers.{moves, after_stop, after_fitting, rest_of, rest_at_end, is_fitting, resumes, ahead_at, style_with, ahead, tells, listed, HasGiven, RestsAsThePart}
 
 abbrev StopList : Type 0
 StopList = List (ℕ × Stop)
@@ -179,10 +179,24 @@ module _ (ns : Option (List (List ℕ))) (c : ℕ) (ps : StopList) (rs : List Re
         ∙ tells_twice es fs (ahead new qs more);
   }
 
+-- ---- all stops
+
+nothing_ahead : (style : Style) (c : ℕ) (s : Stand) → ahead_at style s c [] [] ≡ record { events = []; rest = rest_at_end s; unread = [] }
+unfolding part_of
+nothing_ahead style c (Reading held) = refl
+nothing_ahead style c (Paused None) = refl
+nothing_ahead style c (Paused (Some p)) = refl
+nothing_ahead style c Waiting = refl
+nothing_ahead style c Done = refl
+
 pub rests_as_the_part : RestsAsThePart
-rests_as_the_part ns c ps rs es r h x e =
+rests_as_the_part ns c ps rs es r h =
     ap (λ l. part_of (style_with ns) l c [] rs) (sym (append-nil ps))
     ∙ ap (λ l. part_of (style_with ns) (ps ++ []) c [] l) (sym (append-nil rs))
     ∙ h.part [] []
-    ∙ ap (tells es) (resting (style_with r.names) [] r.chunk r.stand x e [] refl)
-    ∙ tells_none es x []
+    ∙ ap (tells es) (nothing_ahead (style_with r.names) r.chunk r.stand)
+    ∙ tells_none es (rest_at_end r.stand) []
+
+-- before the first stop
+pub starts_reading : (ns : Option (List (List ℕ))) (c : ℕ) (r : Reader) → r ≡ record { chunk = c; names = ns; stand = Reading [] } → HasGiven ns c [] [] [] r
+starts_reading ns c r e = record { same_names = ap (λ (x : Reader). x.names) e; part = λ qs more. ap (λ x. tells [] (ahead x qs more)) (sym e) }

@@ -39,7 +39,7 @@ pub fn asked_goals_stay_inside()
     ensures { AskedGoalsStayInside }
 {}
 
-/// Where a reader of stops rests, the events of the query rest as well: it has given all that these stops decide for these requests.
+/// Where the stops read are all of a query, the reader has given all its events for the requests read, and rests where the query rests.
 pub fn readers_rest_as_parts_do()
     ensures { RestsAsThePart }
 {}

@@ -97,7 +97,8 @@ fn moves(stand: Stand, step: u64, event: Event) -> Moved
 impl Reader {
     /// A reader before the first stop of a query, whose events hold `chunk` answers and these names.
     pub fn new(alloc: Global, chunk: u32, names: Option<List<Name>>) -> Reader
-        ensures { result ≡ record { chunk = chunk; names = names; stand = Reading [] } }
+        ensures stands { result ≡ record { chunk = chunk; names = names; stand = Reading [] } }
+        ensures given { HasGiven names chunk [] [] [] result }
     {
         Reader {
             chunk,

@@ -17,7 +17,7 @@ read : (c : goal.After-rest_behind-rest) →
     Read (names_told c.args.settings.names c.args.ask.now) c.in_ok-stops.field-0.stops.items (chunk_of c.args.settings c.args.ask.now) c.args.requests.now c.in_ok-events.field-0.events c.in_ok-events.field-0.rest
 read c =
     read_from_start c.new-reader.result c.in_ok-stops.field-0.stops.items c.args.requests.now c.in_ok-events.field-0.events c.in_ok-events.field-0.rest c.in_ok-names.names (names_told c.args.settings.names c.args.ask.now)
-    (chunk_of c.args.settings c.args.ask.now) (c.new-reader.ensures ∙ ap (λ k. record { chunk = k; names = c.in_ok-names.names; stand = Reading [] }) c.first_chunk.ensures) c.in_ok-names.ensures c.in_ok-events.ensures
+    (chunk_of c.args.settings c.args.ask.now) (c.new-reader.ensures.stands ∙ ap (λ k. record { chunk = k; names = c.in_ok-names.names; stand = Reading [] }) c.first_chunk.ensures) c.in_ok-names.ensures c.in_ok-events.ensures
 
 pub returns-clause-events : goal.returns-clause-events
 unfolding part
