@@ -1,6 +1,6 @@
 // Laws that hold of the events of every query.
 ghost use Rattle.event_core.specs.Laws.{FurtherOnlyAdds, RequestsOnlyAdd, StepsOnlyAdd, ChunksDontMatter, EnoughCanBeAsked, StepsNeverFall, AskedGoalsStayInside, EventsOnlyGrow};
-ghost use Rattle.event_core.specs.Local.{ReadsAreLocal};
+ghost use Rattle.event_core.specs.Local.{ReadsAreLocal, AskedReadsAreLocal};
 ghost use Rattle.event_core.specs.Readers.{RestsAsThePart};
 ghost use Rattle.event_core.specs.Terms.{TermsAreNumbered};
 
@@ -47,6 +47,11 @@ pub fn readers_rest_as_parts_do()
 /// What a client makes of all events of a query that was asked enough is what the local run comes to, whatever the size of the chunks: the same answers and the same end.
 pub fn reads_are_local()
     ensures { ReadsAreLocal }
+{}
+
+/// The same of a query that may be asked over a program that keeps to the sandbox, for a pengine's settings: what a client makes of all its events is what the query comes to by itself.
+pub fn asked_reads_are_local()
+    ensures { AskedReadsAreLocal }
 {}
 
 /// Whatever is sent to a pengine and strikes it later, the events that it has emitted stay.
