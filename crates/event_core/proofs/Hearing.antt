@@ -12,14 +12,20 @@ use Rattle.event_core.specs.declared.request.Request.TheVariants as request
 use Rattle.event_core.specs.declared.rest.Rest.TheVariants.{More, Prompting, Over}
 use Rattle.event_core.specs.declared.rest.Rest.{Rest}
 use Rattle.event_core.specs.Parts.{Part, Style, rests, gives, at_next, at_respond, after_chunk, is_full, part_step, part_of, part}
+use Rattle.solve_model.specs.Trace.{world_of}
+use Rattle.event_core.specs.Texts.{quoted}
+use Rattle.event_core.specs.Fits.{fits}
+use Rattle.event_core.specs.Names.{answer_term}
+use Rattle.event_core.specs.Standing.{chunk_of, style_of, stops_for, spec_of}
 use Rattle.event_core.specs.Stops.{stops}
 use Rattle.event_core.specs.Endings.{AfterStop, HasEnd}
 use Rattle.event_core.specs.Laws.{replying}
 use Rattle.event_core.specs.Summaries.{IsComplete}
-use Rattle.event_core.specs.declared.local.End.TheVariants as local
+use Rattle.event_core.specs.declared.local.End.TheVariants as ending
 use Rattle.event_core.specs.declared.local.Answers.{Answers}
-use Rattle.event_core.specs.Local.{ended, none_left, local_step, local_from, heard_step, heard_from, as_told, tellings, ReadsAreLocal}
+use Rattle.event_core.specs.Local.{ended, none_left, local_step, local_from, heard_from, tellings, local, ReadsAreLocal, AskedReadsAreLocal}
 use Rattle.event_core.proofs.Ending.{query_ends}
+use Rattle.event_core.proofs.Refusing.{asked_stay_inside}
 
 -- both come to the same answers and end
 pub record Same (heard local : Option Answers) : Type 0 where
@@ -58,7 +64,7 @@ module _ (protocol : Kind → Tree) where
   chunk_tells ns [] k c go got l ih rs = subst (λ (g : List Tree). Tells (go c rs) g l) (append-nil got) (ih c rs)
   chunk_tells ns (t ∷ ts) k c go got l ih rs = next_tells c go (got ++ t ∷ ts) l ih rs
 
-  some_left : (got : List Tree) (t : Tree) (ts : List Tree) → none_left (got ++ t ∷ ts) ≡ local.NoMore
+  some_left : (got : List Tree) (t : Tree) (ts : List Tree) → none_left (got ++ t ∷ ts) ≡ ending.NoMore
   some_left [] t ts = refl
   some_left (x ∷ xs) t ts = refl
 
@@ -68,7 +74,7 @@ module _ (protocol : Kind → Tree) where
         (k : ℕ) (s : Stop) (j : ℕ) → AfterStop ⊥ s j P → (c : ℕ) (held got : List Tree) → Telling (part_step style go k s c held) got (local_step s (got ++ held) f)
     unfolding part_step heard_from
     step_tells P go f ih k (stop.Found t false) j w c held got rs =
-        inl (record { answers = record { answers = got ++ held ++ t ∷ []; end = local.NoMore }; heard_so = ap (λ l. ended l local.NoMore) (sym (append_assoc got held (t ∷ []))); local_so = refl })
+        inl (record { answers = record { answers = got ++ held ++ t ∷ []; end = ending.NoMore }; heard_so = ap (λ l. ended l ending.NoMore) (sym (append_assoc got held (t ∷ []))); local_so = refl })
     step_tells P go f ih k (stop.Found t true) j w c held got rs = at (is_full style.size c (held ++ t ∷ []))
       where
         keeps : (c : ℕ) (rs : List Request) → Tells (go c (held ++ t ∷ []) rs) got (f (got ++ held ++ t ∷ []))
@@ -82,18 +88,18 @@ module _ (protocol : Kind → Tree) where
         at false = keeps c rs
     step_tells P go f ih k (stop.Output t) j w c held got rs = ih j w c held got rs
     step_tells P go f ih k (stop.Prompt t) j w c held got rs =
-        chunk_tells style.names held k c (λ d qs. gives k (Prompt t) (at_respond qs (λ xs. go d [] xs))) got (ended (got ++ held) (local.Prompt t))
-        (λ d qs. at_once (Prompt t) k (at_respond qs (λ xs. go d [] xs)) (got ++ held) (record { answers = got ++ held; end = local.Prompt t }) refl (ended (got ++ held) (local.Prompt t)) refl) rs
+        chunk_tells style.names held k c (λ d qs. gives k (Prompt t) (at_respond qs (λ xs. go d [] xs))) got (ended (got ++ held) (ending.Prompt t))
+        (λ d qs. at_once (Prompt t) k (at_respond qs (λ xs. go d [] xs)) (got ++ held) (record { answers = got ++ held; end = ending.Prompt t }) refl (ended (got ++ held) (ending.Prompt t)) refl) rs
     step_tells P go f ih k stop.NoMore j w c [] got rs =
         inl (record { answers = record { answers = got; end = none_left got }; heard_so = refl; local_so = ap (λ l. ended l (none_left l)) (append-nil got) })
     step_tells P go f ih k stop.NoMore j w c (t ∷ ts) got rs =
-        inl (record { answers = record { answers = got ++ t ∷ ts; end = local.NoMore }; heard_so = refl; local_so = ap (λ e. ended (got ++ t ∷ ts) e) (some_left got t ts) })
+        inl (record { answers = record { answers = got ++ t ∷ ts; end = ending.NoMore }; heard_so = refl; local_so = ap (λ e. ended (got ++ t ∷ ts) e) (some_left got t ts) })
     step_tells P go f ih k (stop.Ball b) j w c held got rs =
-        chunk_tells style.names held k c (λ d qs. gives k (Error b) (rests Over qs)) got (ended (got ++ held) (local.Ball b))
-        (λ d qs. at_once (Error b) k (rests Over qs) (got ++ held) (record { answers = got ++ held; end = local.Ball b }) refl (ended (got ++ held) (local.Ball b)) refl) rs
+        chunk_tells style.names held k c (λ d qs. gives k (Error b) (rests Over qs)) got (ended (got ++ held) (ending.Ball b))
+        (λ d qs. at_once (Error b) k (rests Over qs) (got ++ held) (record { answers = got ++ held; end = ending.Ball b }) refl (ended (got ++ held) (ending.Ball b)) refl) rs
     step_tells P go f ih k stop.Limit j w c held got rs =
-        chunk_tells style.names held k c (λ d qs. gives k Limit (rests Over qs)) got (ended (got ++ held) local.Limit)
-        (λ d qs. at_once Limit k (rests Over qs) (got ++ held) (record { answers = got ++ held; end = local.Limit }) refl (ended (got ++ held) local.Limit) refl) rs
+        chunk_tells style.names held k c (λ d qs. gives k Limit (rests Over qs)) got (ended (got ++ held) ending.Limit)
+        (λ d qs. at_once Limit k (rests Over qs) (got ++ held) (record { answers = got ++ held; end = ending.Limit }) refl (ended (got ++ held) ending.Limit) refl) rs
     step_tells P go f ih k (stop.Outside i) j w c held got rs = absurd w
 
     -- For each chunk and all requests: what the events of stops come to is what the stops come to, as soon as the query rests elsewhere than at a `next`.
@@ -122,3 +128,9 @@ reads_are_local protocol w fits style g t c rs n inside h = told (part_of style 
     told : (p : Part) → IsComplete p → Tells protocol p [] (local_from (stops fits (replying w []) g t) []) → (x : Answers) × (heard_from (tellings protocol p.events) [] ≡ Some x) × (local_from (stops fits (replying w []) g t) [] ≡ Some x)
     told p k (inl s) = (s.answers, s.heard_so, s.local_so)
     told p k (inr m) = absurd (not_more p k m.1)
+
+pub asked_reads_are_local : AskedReadsAreLocal
+asked_reads_are_local protocol l s a keeps passes rs n h =
+    let x : (x : Answers) × (heard_from (tellings protocol ((spec_of l s).part a rs).events) [] ≡ Some x) × (local_from (stops_for l s a []) [] ≡ Some x) =
+    reads_are_local protocol (world_of l [] s.limit) (fits quoted) (style_of s a) a.goal (answer_term s.names a) (chunk_of s a) rs n (asked_stay_inside l s a keeps passes []) h in
+    (x.0, x.1, ap (λ v. local v (stops_for l s a [])) passes ∙ x.2)
