@@ -7,8 +7,7 @@ use Rattle.std.proofs.lemmas.List.Elements.{filter_map-append}
 use Rattle.term_core.specs.Tree.{Tree, variable, integer, atom, compound, no_trees, tree}
 use Rattle.term_core.specs.Parts.{arguments_of}
 use Rattle.event_core.specs.declared.settings.TheConstants.Settings.{DEFAULT}
-use Rattle.event_core.specs.declared.limits.TheConstants.{MAX_LIMIT}
-use Rattle.request_text.specs.declared.options.TheConstants.{MAX_CHUNK}
+use Rattle.event_core.specs.declared.limits.TheConstants.{MAX_CHUNK, MAX_LIMIT}
 use Rattle.request_text.specs.declared.options.Given.{Given}
 use Rattle.request_text.specs.declared.options.Given.TheVariants.{Never, Once, Again}
 use Rattle.request_text.specs.Shapes.{is_compound, at_most}
