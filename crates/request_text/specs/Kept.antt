@@ -1,5 +1,6 @@
 -- A script and a spec, as the code keeps them, and how faults are passed on.
-use Rattle.std.specs.Prelude.{ℕ, List, map, BTreeMap}
+use Rattle.std.specs.Prelude.{ℕ, List, map}
+use Rattle.std.specs.BTreeMap.{BTreeMap}
 use denote.Bor.{Bor}
 use Rattle.prolog_read.specs.Variables.{Names}
 use Rattle.program.specs.declared.fault.ProgFault.{ProgFault}

@@ -1,6 +1,7 @@
 -- A template that is a text of its own, beside its goal: they share the variables whose names they share. And the names that answers carry.
 use Rattle.std.specs.Prelude.{ℕ, ◌+◌, ◌==◌, Bool, true, not, List, [], ◌∷◌, map, Option, Some, None, if◌then◌else◌, unwrap_or}
-use Rattle.std.specs.Ordering.{match_ordering, nat_cmp}
+use Rattle.std.specs.BTreeMap.{insert_entry}
+use Rattle.std.specs.Ordering.{nat_cmp}
 use Rattle.std.specs.Cmp.Lexicographic.{slice_cmp}
 use Rattle.term_core.specs.Tree.{Tree}
 use Rattle.term_core.specs.Variables.{map_variables, first_free}
@@ -26,15 +27,10 @@ abbrev pub is_told : List ℕ → Bool
 is_told [] = true
 is_told (b ∷ bs) = not (b == 95)
 
--- a name with its variable, among others in byte order; it takes the place of the same name
-unfoldable pub put_in_order : List ℕ × ℕ → Names → Names
-put_in_order p [] = p ∷ []
-put_in_order p (q ∷ qs) = match_ordering (slice_cmp nat_cmp p.0 q.0) (p ∷ q ∷ qs) (p ∷ qs) (q ∷ put_in_order p qs)
-
--- those that are told, put before others
+-- Those that are told, put before others: each name once and in byte order, with the variable that the first of its places gives it.
 unfoldable pub told_before : Names → Names → Names
 told_before [] qs = qs
-told_before (p ∷ ps) qs = if is_told p.0 then put_in_order p (told_before ps qs) else told_before ps qs
+told_before (p ∷ ps) qs = if is_told p.0 then insert_entry (slice_cmp nat_cmp) (told_before ps qs) p.0 p.1 else told_before ps qs
 
 -- those that are told, in byte order
 abbrev pub told_names : Names → Names

@@ -100,7 +100,7 @@ fn told_before<'a>(
     free: u64,
     others: BTreeMap<&'a str, u64>,
 ) -> Result<BTreeMap<&'a str, u64>, Memory>
-    ensures { IfOk result (λ m. in_order m ≡ told_before (names_behind free names.now) (in_order others)) }
+    ensures { IfOk result (λ m. in_order m ≡ told_before (names_behind free names.now) (in_order others.entry)) }
 {
     let mut told = others;
     for i in 0..names.len() {
