@@ -5,9 +5,11 @@ use Rattle.std.specs.Ordering.{match_ordering, nat_cmp}
 use Rattle.std.specs.Cmp.Lexicographic.{slice_cmp}
 use Rattle.std.specs.declared.cmp.Ordering.{Ordering}
 use Rattle.std.specs.declared.cmp.Ordering.TheVariants.{Less, Equal, Greater}
+use Rattle.term_core.specs.Variables.{first_free}
 use Rattle.prolog_read.specs.Variables.{Names}
+use Rattle.prolog_read.specs.Outcome.{ReadAs}
 use Rattle.request_text.specs.Kept.{in_order}
-use Rattle.request_text.specs.Templates.{is_told, told_before, names_behind}
+use Rattle.request_text.specs.Templates.{is_told, told_before, told_names, names_behind, names_beside}
 use Rattle.request_text.proofs.Sharing.{one_back}
 use denote.Bor.{Bor}
 
@@ -71,3 +73,19 @@ listed_more ns es fs all new p so_far e is same put =
 
 pub listed_all : (ns : Names) (es : List (Bor (List ℕ) × ℕ)) (all : Names) → ns ++ seen es ≡ all → es ≡ [] → ns ≡ all
 listed_all ns es all so_far is = sym (append-nil ns) ∙ ap (λ xs. ns ++ seen xs) (sym is) ∙ so_far
+
+-- ---- names that are told
+
+as_they_are : (ps : Names) → names_behind 0 ps ≡ ps
+as_they_are [] = refl
+as_they_are (p ∷ ps) = ap (λ (n : ℕ). (p.0, n) ∷ names_behind 0 ps) (omega arith) ∙ ap (λ (qs : Names). p ∷ qs) (as_they_are ps)
+
+module _ (empty told : BTreeMap (Bor (List ℕ)) ℕ) (nothing : empty.entries ≡ []) where
+  pub told_alone : (ps : Names) → in_order told ≡ told_before (names_behind 0 ps) (in_order empty) → in_order told ≡ told_names ps
+  told_alone ps is = is ∙ ap (λ qs. told_before qs (in_order empty)) (as_they_are ps) ∙ ap (λ es. told_before ps (seen es)) nothing
+
+  pub told_beside : (goal template : ReadAs) (gs ts : Names) (free : ℕ) (behind : BTreeMap (Bor (List ℕ)) ℕ) → gs ≡ goal.1 → ts ≡ template.1 → free ≡ first_free goal.0 →
+      in_order behind ≡ told_before (names_behind free ts) (in_order empty) → in_order told ≡ told_before (names_behind 0 gs) (in_order behind) → in_order told ≡ names_beside goal template
+  told_beside goal template gs ts free behind a b f of_template of_goal =
+      of_goal ∙ ap (λ qs. told_before qs (in_order behind)) (as_they_are gs ∙ a)
+      ∙ ap (told_before goal.1) (of_template ∙ ap (λ es. told_before (names_behind free ts) (seen es)) nothing ∙ ap (λ n. told_names (names_behind n ts)) f ∙ ap (λ qs. told_names (names_behind (first_free goal.0) qs)) b)

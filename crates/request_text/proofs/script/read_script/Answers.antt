@@ -1,5 +1,6 @@
-use Rattle.std.proofs.Common.{sym, ◌∙◌, ap, Err}
+use Rattle.std.proofs.Common.{sym, ◌∙◌, ap, Ok, Err}
 use Rattle.std.proofs.lemmas.Result.{err_from_is_err_and}
+use Rattle.program.specs.Loaded.{Loaded}
 use Rattle.request_text.specs.declared.fault.ScriptFault.TheVariants.{Utf8}
 use Rattle.request_text.proofs.Scripts.{not_text, source_refused, line_refused, script_made}
 use Rattle.request_text.proofs.script.read_script.Goals as goal
@@ -20,3 +21,4 @@ returns-in_err-settings-clause-refused c =
 pub returns-clause-script : goal.returns-clause-script
 returns-clause-script c =
     script_made c.args.library.now.app c.args.bytes.now c.in-Ok.text.now _ _ c.in-Ok.ensures.cases.0 c.in-Ok.ensures.cases.1 c.parts.ensures.source c.parts.ensures.requests _ c.in_ok-program.ensures.program _ c.in_ok-settings.ensures.session
+    ∙ ap (λ (l : Loaded). Ok (record { program = l; settings = c.in_ok-settings.settings; lines = c.in_ok-settings.lines })) (sym c.in_ok-new.ensures.ok)
