@@ -125,10 +125,7 @@ fn listed(alloc: Global, told: &BTreeMap<&str, u64>) -> Result<List<(Name, u64)>
 }
 
 /// Those of the names that are told, each with its variable, in byte order.
-pub(crate) fn told_names(
-    alloc: Global,
-    names: &[(Name, u64)],
-) -> Result<List<(Name, u64)>, Memory>
+pub(crate) fn told_names(alloc: Global, names: &[(Name, u64)]) -> Result<List<(Name, u64)>, Memory>
     ensures { IfOk result (λ ns. ns ≡ told_names names.now) }
 {
     let told = told_before(names, 0, BTreeMap::new(alloc))?;

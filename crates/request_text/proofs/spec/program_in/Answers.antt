@@ -1,4 +1,3 @@
-use Rattle.std.proofs.Common.{◌∙◌}
 use Rattle.std.proofs.lemmas.Result.{err_from_is_err_and}
 use Rattle.lib_text.proofs.Reading.{all_numbered}
 use Rattle.request_text.proofs.Programs.{program_made, program_refused}
