@@ -39,7 +39,7 @@ module _ (app : App) (bs text source requests : List ℕ) (same : text ≡ bs) (
   then_session l r = and_then r (λ s. Ok (record { program = l; settings = s.settings; lines = s.lines }))
 
   abbrev then_program : Result Loaded SpecFault → Result Script ScriptFault
-  then_program r = and_then (of_spec r) (λ l. then_session l (session_in 1 (lines requests)))
+  then_program r = and_then (of_spec r) (λ l. then_session l (session_in app 1 (lines requests)))
 
   is_script : script app bs ≡ script_of app (parts bs)
   is_script = rw (is_utf8-from_IsUtf8 bs u) refl
@@ -55,12 +55,12 @@ module _ (app : App) (bs text source requests : List ℕ) (same : text ≡ bs) (
   source_refused e h n = by_parts ∙ ap then_program (h (passed_on e n).0) ∙ ap Err (passed_on e n).1
 
   module _ (l : Loaded) (read : program_in app source ≡ Ok l) where
-    by_lines : script app bs ≡ then_session l (session_in 1 (lines requests))
+    by_lines : script app bs ≡ then_session l (session_in app 1 (lines requests))
     by_lines = by_parts ∙ ap then_program read
 
     -- a request line is refused
-    pub line_refused : (e : ScriptFault) → session_in 1 (lines requests) ≡ Err e → script app bs ≡ Err e
+    pub line_refused : (e : ScriptFault) → session_in app 1 (lines requests) ≡ Err e → script app bs ≡ Err e
     line_refused e h = by_lines ∙ ap (then_session l) h
 
-    pub script_made : (s : Session) → session_in 1 (lines requests) ≡ Ok s → script app bs ≡ Ok (record { program = l; settings = s.settings; lines = s.lines })
+    pub script_made : (s : Session) → session_in app 1 (lines requests) ≡ Ok s → script app bs ≡ Ok (record { program = l; settings = s.settings; lines = s.lines })
     script_made s h = by_lines ∙ ap (then_session l) h
