@@ -1,4 +1,4 @@
-ghost use Rattle.std.specs.Prelude.{◌≡◌, true, false, map, length, Ok, IfOk, OnOk};
+ghost use Rattle.std.specs.Prelude.{◌≡◌, true, false, map, length, string_bytes, Ok, IfOk, OnOk};
 ghost use Rattle.prolog_read.specs.Clauses.{iso};
 ghost use Rattle.prolog_read.specs.Outcome.{clauses_read, read_as};
 ghost use Rattle.program.specs.Source.{AreNumbered, clauses_in, trees_read};
@@ -110,7 +110,7 @@ impl Library {
 
 // The source text of an application's library.
 fn text_of(alloc: Global, app: App) -> Result<String, Memory>
-    ensures { IfOk result (λ t. t ≡ text_of_app app) }
+    ensures { IfOk result (λ t. string_bytes t ≡ text_of_app app) }
 {
     let mut text = String::from_str(alloc, source())?;
     text.push_str(source_of(app))?;

@@ -1,5 +1,5 @@
 -- The clauses of an accepted text keep to the sandbox, and so does what is loaded over a library that does.
-use Rattle.std.proofs.Common.{◌≡◌, ℕ, ◌+◌, Bool, true, false, not, ◌&&◌, ◌||◌, List, [], ◌∷◌, filter, length, if◌then◌else◌, codes, bytes_eq, Option, Some, None, is_some, refl, ap, sym, subst, ◌∙◌, append-nil}
+use Rattle.std.proofs.Common.{◌≡◌, ℕ, ◌+◌, Bool, true, false, not, ◌&&◌, ◌||◌, List, [], ◌∷◌, length, if◌then◌else◌, codes, bytes_eq, Option, Some, None, is_some, refl, ap, subst, ◌∙◌}
 use Rattle.std.specs.List.{list_all, cons_option}
 use Rattle.term_core.specs.declared.pi.Pi.{Pi}
 use Rattle.term_core.specs.Tree.{Tree, variable, integer, atom, compound, no_trees, tree}
@@ -9,7 +9,7 @@ use Rattle.program.specs.declared.fault.ProgFault.{ProgFault}
 use Rattle.program.specs.declared.fault.ProgFault.TheVariants.{Redefines}
 use Rattle.program.specs.Bodies.{is_body}
 use Rattle.program.specs.Clauses.{Clause, indicator_of}
-use Rattle.program.specs.Source.{item_of, begins_with_dollar, fault_of, fault_at, first_fault, clause_in, clauses_in, defines, program_of}
+use Rattle.program.specs.Source.{item_of, begins_with_dollar, fault_of, fault_at, first_fault, clause_in, clauses_in}
 use Rattle.sandbox_walk.specs.Keeping.{is_reserved, keeps_of, clause_keeps, client_keeps}
 use Rattle.sandbox_walk.proofs.Loading.{loaded_keep}
 use Rattle.library_check.specs.Loaded.{AcceptedTextsKeepTheSandbox, LoadedTextsKeepTheSandbox}

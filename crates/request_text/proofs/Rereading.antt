@@ -16,11 +16,12 @@ use Rattle.read_back.specs.Laws.{WhatIsWrittenIsReadAgain}
 use Rattle.builtin_table.specs.Lists as lists
 use Rattle.builtin_table.specs.Errors.{one_argument}
 use Rattle.event_core.specs.declared.request.Request.TheVariants as request
-use Rattle.request_text.specs.declared.options.TheConstants.{MAX_CHUNK}
+use Rattle.event_core.specs.declared.limits.TheConstants.{MAX_CHUNK}
 use Rattle.request_text.specs.declared.sent.Sent.{Sent}
 use Rattle.request_text.specs.declared.sent.Sent.TheVariants.{Request as Asks, Abort, Destroy}
 use Rattle.request_text.specs.Shapes.{number_up_to}
 use Rattle.request_text.specs.Requests.{request_of}
+use Rattle.request_text.specs.Templates.{told_names}
 use Rattle.request_text.specs.Written.{number_term, next_term, chunk_option, goal_with, sent_term, sent_text, sent_mapped, HasChunk, IsChunk, RequestsAreReadAgain}
 
 number_found : (n : ℕ) → 1 ≤ n → n ≤ MAX_CHUNK → number_up_to MAX_CHUNK (number_term n) ≡ Some n
@@ -32,7 +33,7 @@ chunk_named (suc n) h = refl
 
 module _ (f : ℕ → ℕ) (bytes : ℕ) where
   abbrev asked : Tree → Tree → ℕ → Option Sent
-  asked g t c = Some (Asks (request.Ask (record { goal = map_variables f g; template = map_variables f t; chunk = c; bytes = bytes })))
+  asked g t c = Some (Asks (request.Ask (record { goal = map_variables f g; template = map_variables f t; names = []; chunk = c; bytes = bytes })))
 
   -- an ask with these options, where `same` says whether the template is the goal
   ask_with_options : (g t : Tree) (same : Bool) (c : ℕ) → IsChunk c → (same ≡ true → t ≡ g) →
@@ -65,4 +66,4 @@ pub read_again : WhatIsWrittenIsReadAgain → RequestsAreReadAgain
 read_again law s h sound shallow =
     let r = (law Quoted (sent_term s) refl sound shallow).alone in
     let found : term_read iso (sent_text s) ≡ Ok (numbered (sent_term s), r.names) = reads_found iso (sent_text s) (numbered (sent_term s)) r.names r.reads in
-    rw (found, sent_found (λ n. place_of n (variables (sent_term s))) (length (sent_text s)) s h) refl
+    (told_names r.names, rw (found, sent_found (λ n. place_of n (variables (sent_term s))) (length (sent_text s)) s h) refl)

@@ -17,7 +17,6 @@ use Rattle.program.specs.Source.{first_fault, clauses_in, program_of}
 use Rattle.lib_text.specs.Clauses.{library_clauses}
 use Rattle.builtin_table.specs.Table.{rows_of_app, reserved_of}
 use Rattle.event_core.specs.declared.settings.Settings.{Settings}
-use Rattle.event_core.specs.declared.settings.TheConstants.Settings.{DEFAULT}
 use Rattle.request_text.specs.declared.fault.RequestFault.{RequestFault}
 use Rattle.request_text.specs.declared.fault.RequestFault.TheVariants.{Read, NotRequest}
 use Rattle.request_text.specs.declared.fault.SpecFault.{SpecFault}
@@ -28,6 +27,7 @@ use Rattle.request_text.specs.declared.sent.Sent.{Sent}
 use Rattle.request_text.specs.Requests.{named, request_of}
 use Rattle.request_text.specs.Templates.{told_names}
 use Rattle.std.specs.Option.{option_map}
+use Rattle.request_text.specs.Limits.{default_settings}
 use Rattle.request_text.specs.Options.{created}
 
 abbrev pub ok_or : {A E : Type 0} → Option A → E → Result A E
@@ -129,19 +129,19 @@ pub record Session : Type 0 where
 abbrev pub session_of : Settings → Result (List Sent) ScriptFault → Result Session ScriptFault
 session_of s r = and_then r (λ ss. Ok (record { settings = s; lines = ss }))
 
-abbrev pub settings_at : Result ReadAs ReadFault → Option Settings
-settings_at (Ok x) = created x.0
-settings_at (Err e) = None
+abbrev pub settings_at : App → Result ReadAs ReadFault → Option Settings
+settings_at app (Ok x) = created app x.0
+settings_at app (Err e) = None
 
 -- the lines from the first one on that isn't passed over, which may be create(Options)
-abbrev pub session_from : Option Settings → ℕ → (l : List ℕ) → (ls : List (List ℕ)) → Result Session ScriptFault
-session_from (Some s) n l ls = session_of s (requests_in (n + 1) ls)
-session_from None n l ls = session_of DEFAULT (requests_in n (l ∷ ls))
+abbrev pub session_from : App → Option Settings → ℕ → (l : List ℕ) → (ls : List (List ℕ)) → Result Session ScriptFault
+session_from app (Some s) n l ls = session_of s (requests_in (n + 1) ls)
+session_from app None n l ls = session_of (default_settings app) (requests_in n (l ∷ ls))
 
 -- where the first line has the number n
-unfoldable pub session_in : ℕ → List (List ℕ) → Result Session ScriptFault
-session_in n [] = Ok (record { settings = DEFAULT; lines = [] })
-session_in n (l ∷ ls) = if is_passed l then session_in (n + 1) ls else session_from (settings_at (term_read iso l)) n l ls
+unfoldable pub session_in : App → ℕ → List (List ℕ) → Result Session ScriptFault
+session_in app n [] = Ok (record { settings = default_settings app; lines = [] })
+session_in app n (l ∷ ls) = if is_passed l then session_in app (n + 1) ls else session_from app (settings_at app (term_read iso l)) n l ls
 
 -- ---- the source text
 
@@ -174,7 +174,7 @@ of_spec (Err e) = Err (Spec e)
 abbrev pub script_of : App → Parts → Result Script ScriptFault
 script_of app p =
     and_then (of_spec (program_in app p.source)) (λ l.
-    and_then (session_in 1 (lines p.requests)) (λ s.
+    and_then (session_in app 1 (lines p.requests)) (λ s.
     Ok (record { program = l; settings = s.settings; lines = s.lines })))
 
 -- what the bytes of a script spell; bytes that aren't UTF-8 are refused behind their longest front that is

@@ -31,7 +31,8 @@ pub struct Options {
     /// How many answers an event holds where an ask names no number; from 1 to 1,000. It holds fewer where their texts have
     /// [`CHUNK_BYTES`](event_core::CHUNK_BYTES) together.
     pub chunk: u32,
-    /// How many steps each query may make; from 1 to [`MAX_LIMIT`](event_core::MAX_LIMIT).
+    /// How many steps each query may make; from 1 to the [`greatest_limit`](crate::greatest_limit) of the application; a client that names none gets that of
+    /// [`default_settings`](crate::default_settings).
     pub limit: u64,
     /// Whether the pengine is destroyed at the end of a query.
     pub destroy: bool,

@@ -5,7 +5,8 @@ ghost use Rattle.std.specs.BTreeMap.{get, get_by_text};
 ghost use Rattle.term_core.specs.Nodes.{map_node};
 ghost use Rattle.prolog_read.specs.Variables.{lookup};
 ghost use Rattle.prolog_read.specs.Outcome.{read_as};
-ghost use Rattle.request_text.specs.Templates.{shared, beside, is_told, told_names, all_names, names_beside};
+ghost use Rattle.request_text.specs.Kept.{in_order};
+ghost use Rattle.request_text.specs.Templates.{shared, beside, is_told, told_before, told_names, names_behind, names_beside};
 
 use std::alloc::Global;
 use std::collections::BTreeMap;
@@ -84,60 +85,55 @@ pub(crate) fn beside(alloc: Global, goal: &ReadTerm, template: &ReadTerm) -> Res
 }
 
 /// Whether the name of a variable is told: it doesn't begin with `_`.
-fn is_told(name: &Name) -> bool
+fn is_told(name: &str) -> bool
     ensures { result ≡ is_told name.now }
 {
-    match name.as_str().as_bytes().first() {
+    match name.as_bytes().first() {
         Some(byte) => *byte != b'_',
         None => true,
     }
 }
 
-/// Those of the names that are told, each with its variable, in byte order.
-pub(crate) fn told_names(
-    alloc: Global,
-    names: &[(Name, u64)],
-) -> Result<List<(Name, u64)>, Memory>
-    ensures { IfOk result (λ ns. ns ≡ told_names names.now) }
+/// Those of the names that are told, put before others; the variables of these names are counted from `free`.
+fn told_before<'a>(
+    names: &'a [(Name, u64)],
+    free: u64,
+    others: BTreeMap<&'a str, u64>,
+) -> Result<BTreeMap<&'a str, u64>, Memory>
+    ensures { IfOk result (λ m. in_order m ≡ told_before (names_behind free names.now) (in_order others.entry)) }
 {
-    let mut sorted = BTreeMap::new(alloc);
+    let mut told = others;
     for i in 0..names.len() {
         let (name, number) = &names[names.len() - 1 - i];
-        if is_told(name) {
-            sorted.insert(String::from_str(alloc, name.as_str())?, *number)?;
+        if is_told(name.as_str()) {
+            let number = free.checked_add(*number).ok_or(Memory)?;
+            told.insert(name.as_str(), number)?;
         }
-    }
-    let mut told = List::new(alloc);
-    for (name, number) in sorted {
-        told.push((Name::new(alloc, name.as_str())?, number))?;
     }
     Ok(told)
 }
 
-/// The names of a goal, and those of its template that the goal has not, each with its variable beside the goal.
-fn all_names(
-    alloc: Global,
-    goal: &ReadTerm,
-    template: &ReadTerm,
-) -> Result<Vec<(Name, u64)>, Memory>
-    ensures { IfOk result (λ v. v.items ≡ all_names (read_as goal.now) (read_as template.now)) }
+/// The names, each with its variable, in byte order.
+fn listed(alloc: Global, told: &BTreeMap<&str, u64>) -> Result<List<(Name, u64)>, Memory>
+    ensures { IfOk result (λ ns. ns ≡ in_order told.now) }
 {
-    let index = index_of(alloc, goal.names.as_slice())?;
-    let free = goal.term.first_free()?;
-    let mut all = Vec::new(alloc);
-    for (name, number) in goal.names.as_slice() {
-        all.push((name.copied(alloc)?, *number))?;
+    let mut names = List::new(alloc);
+    for (name, number) in told {
+        names.push((Name::new(alloc, name)?, *number))?;
     }
-    for (name, number) in template.names.as_slice() {
-        if index.get(name.as_str()).is_none() {
-            let number = free.checked_add(*number).ok_or(Memory)?;
-            all.push((name.copied(alloc)?, number))?;
-        }
-    }
-    Ok(all)
+    Ok(names)
 }
 
-/// The names that answers to a goal carry whose template is a text of its own.
+/// Those of the names that are told, each with its variable, in byte order.
+pub(crate) fn told_names(alloc: Global, names: &[(Name, u64)]) -> Result<List<(Name, u64)>, Memory>
+    ensures { IfOk result (λ ns. ns ≡ told_names names.now) }
+{
+    let told = told_before(names, 0, BTreeMap::new(alloc))?;
+    listed(alloc, &told)
+}
+
+/// The names that answers to a goal carry whose template is a text of its own: those of the goal, and those of its template
+/// with their variables beside the goal. A name that both have is the goal's.
 pub(crate) fn names_beside(
     alloc: Global,
     goal: &ReadTerm,
@@ -145,6 +141,8 @@ pub(crate) fn names_beside(
 ) -> Result<List<(Name, u64)>, Memory>
     ensures { IfOk result (λ ns. ns ≡ names_beside (read_as goal.now) (read_as template.now)) }
 {
-    let all = all_names(alloc, goal, template)?;
-    told_names(alloc, &all)
+    let free = goal.term.first_free()?;
+    let behind = told_before(template.names.as_slice(), free, BTreeMap::new(alloc))?;
+    let told = told_before(goal.names.as_slice(), 0, behind)?;
+    listed(alloc, &told)
 }
