@@ -72,18 +72,18 @@ pub record IsReading (ks : Kinds) (whole found : List Found) (ts : List Task) (u
 -- ---- what a node shows before its arguments, and how these are read
 
 -- so many tasks, side by side with how they are read; those behind the list are no goals
-abbrev pub tasks_of : (Kind → Task) → List Kind → ℕ → List Task
-tasks_of f xs zero = []
-tasks_of f [] (suc n) = f Plain ∷ tasks_of f [] n
-tasks_of f (x ∷ xs) (suc n) = f x ∷ tasks_of f xs n
+abbrev pub tasks_of : (Kind → Task) → ℕ → List Kind → List Task
+tasks_of f zero xs = []
+tasks_of f (suc n) [] = f Plain ∷ tasks_of f n []
+tasks_of f (suc n) (x ∷ xs) = f x ∷ tasks_of f n xs
 
 abbrev pub skipped : ℕ → List Task
-skipped n = tasks_of (Argument None) [] n
+skipped n = tasks_of (Argument None) n []
 
 abbrev pub literal_tasks : Kinds → List ℕ → ℕ → ℕ → List Task
 literal_tasks ks f n k =
-    tasks_of (Argument (Some (indicator f (n + k)))) (ks (indicator f (n + k))) n
-    ++ tasks_of (Fresh (Some (indicator f (n + k)))) (drop n (ks (indicator f (n + k)))) k
+    tasks_of (Argument (Some (indicator f (n + k)))) n (ks (indicator f (n + k)))
+    ++ tasks_of (Fresh (Some (indicator f (n + k)))) k (drop n (ks (indicator f (n + k))))
 
 abbrev pub first_node : List Node → Node
 first_node [] = Var 0
@@ -153,4 +153,4 @@ abbrev pub tasks_by : Kinds → Kind → Option Pi → List Node → List Bool �
 tasks_by ks Plain h ns bs = skipped_node (first_node ns)
 tasks_by ks Part h ns bs = part_tasks ks (first_node ns)
 tasks_by ks (Adds k) h ns bs = goal_tasks ks k ns bs
-tasks_by ks Behind h ns bs = if is_hat_symbol (first_node ns) then tasks_of (Argument h) (Plain ∷ Behind ∷ []) 2 else goal_tasks ks 0 ns bs
+tasks_by ks Behind h ns bs = if is_hat_symbol (first_node ns) then tasks_of (Argument h) 2 (Plain ∷ Behind ∷ []) else goal_tasks ks 0 ns bs

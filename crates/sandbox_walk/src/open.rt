@@ -233,7 +233,7 @@ fn arguments(
     count: u32,
     kinds: &[Kind],
 ) -> Result<Vec<Task>, Memory>
-    ensures { IfOk result (λ v. v.items ≡ tasks_of (Argument holder.now) kinds.now count) }
+    ensures { IfOk result (λ v. v.items ≡ tasks_of (Argument holder.now) count kinds.now) }
 {
     let mut tasks = Vec::new(alloc);
     for i in 0..count {
@@ -249,7 +249,7 @@ fn variables(
     count: u32,
     kinds: &[Kind],
 ) -> Result<Vec<Task>, Memory>
-    ensures { IfOk result (λ v. v.items ≡ tasks_of (Fresh holder.now) kinds.now count) }
+    ensures { IfOk result (λ v. v.items ≡ tasks_of (Fresh holder.now) count kinds.now) }
 {
     let mut tasks = Vec::new(alloc);
     for i in 0..count {

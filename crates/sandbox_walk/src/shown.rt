@@ -76,7 +76,7 @@ fn take(
 ) -> Result<(), Memory>
     requires terms { AreTermNodes nodes.now }
     requires bodies { bodies.now ≡ bodies_at_nodes nodes.now }
-    requires node { HasNode task.now (build (drop reading.at nodes.now)) }
+    requires node { HasNode task.now (build (drop reading.old.at nodes.now)) }
     ensures { IfOk result (λ _. (whole : List Finding) (ts : List Asked) → ts ≡ task.now ∷ reverse reading.old.tasks.items →
         IsReading (kinds_of table.now) whole reading.old.found.items ts (build (drop reading.old.at nodes.now)) →
         IsReading (kinds_of table.now) whole reading.new.found.items (reverse reading.new.tasks.items) (build (drop reading.new.at nodes.now))) }

@@ -4,4 +4,4 @@ use Rattle.sandbox_walk.specs.Pending.{tasks_of}
 use Rattle.sandbox_walk.proofs.open.variables.Given as goal
 
 abbrev pub invariant-loop-i : goal.invariant-loop-i
-invariant-loop-i l = l.tasks.items ≡ tasks_of (Fresh l.holder) l.kinds l.i
+invariant-loop-i l = l.tasks.items ≡ tasks_of (Fresh l.holder) l.i l.kinds
