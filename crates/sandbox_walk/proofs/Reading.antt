@@ -1,16 +1,17 @@
 -- What a text shows, a node at a time.
-use Rattle.std.proofs.Common.{◌≡◌, ℕ, min, take, drop, get_or, zero, suc, ◌+◌, ◌-◌, ◌<◌, ◌≤◌, ℤ, Bool, true, false, ◌&&◌, ◌==◌, List, [], ◌∷◌, ◌++◌, length, reverse, nat_lt, if◌then◌else◌, codes, bytes_eq, Option, Some, None, refl, ap, sym, subst, ◌∙◌, append_assoc, append-nil, arith, ⊤}
+use Rattle.std.proofs.Common.{◌≡◌, ℕ, min, take, drop, get_or, zero, suc, ◌+◌, ◌-◌, ◌<◌, ◌≤◌, ℤ, Bool, true, false, ◌&&◌, ◌==◌, List, [], ◌∷◌, ◌++◌, length, reverse, nat_lt, if◌then◌else◌, codes, bytes_eq, Option, Some, None, refl, ap, sym, subst, ◌∙◌, append_assoc, append-nil, arith}
+use Rattle.std.specs.Bool.{⊤}
 use Rattle.std.specs.List.{flat_map}
 use Rattle.std.proofs.lemmas.Bool.{lt-ltb, le-ltb, ltb-true, and_parts, eqb-true}
-use Rattle.std.proofs.lemmas.List.{reverse-reverse, reverse-append, length-append, length-take, take_all, take-append-drop, at_drop_more}
+use Rattle.std.proofs.lemmas.List.{reverse-reverse, reverse-append, length-append, length-take, length-drop, take_all, take-append-drop, at_drop_more}
 use Rattle.term_core.specs.declared.pi.Pi.{Pi}
 use Rattle.term_core.specs.declared.node.Node.{Node}
 use Rattle.term_core.specs.declared.node.Node.TheVariants.{Var, Int, Atom, Comp}
 use Rattle.term_core.specs.Tree.{Tree, variable, integer, atom, compound, Trees, no_trees, tree, tree_list, trees_of, arity, IsTerm}
 use Rattle.term_core.specs.Parts.{symbol_of, arguments_of}
-use Rattle.term_core.specs.Flat.{flatten, build, grow, first_tree, parse}
+use Rattle.term_core.specs.Flat.{flatten, build-flatten, build, grow, first_tree, parse}
 use Rattle.term_core.specs.Preorder.{count_of, ArePreorder, AreTermNodes}
-use Rattle.term_core.proofs.Preorder.{flatten-build, length-grow, IsTerm-parse}
+use Rattle.term_core.proofs.Preorder.{flatten-build, length-build_le, AreTermNodes-drop, IsTerm-parse}
 use Rattle.term_core.proofs.Lists.{arity-trees_of}
 use Rattle.program.specs.Bodies.{is_body, is_connective, are_bodies}
 use Rattle.program.specs.Symbols.{with_node, node_bodies}
@@ -23,20 +24,23 @@ use Rattle.sandbox_walk.specs.declared.found.Found.TheVariants.{Literal, Place}
 use Rattle.sandbox_walk.specs.declared.shown.Task.{Task}
 use Rattle.sandbox_walk.specs.declared.shown.Task.TheVariants.{Argument, Fresh}
 use Rattle.sandbox_walk.specs.Shown.{Kinds, shown, shown_in, fresh, fresh_one, indicator, called_variable, variables_added, with_variables, stands, stands_if, placed, too_many, is_hat}
-use Rattle.sandbox_walk.specs.Pending.{begins_body, body_of, with_body, tree_bodies, bodies_at, extends, tasks_show, needs, IsReading, tasks_of, skipped, literal_tasks, first_node, skipped_node, part_found, part_tasks, compound_found, compound_tasks, goal_node_found, goal_node_tasks, is_hat_symbol, found_by, tasks_by, goal_found, goal_tasks}
+use Rattle.sandbox_walk.specs.Pending.{begins_body, body_of, with_body, tree_bodies, bodies_at, extends, tasks_show, needs, HasNode, IsReading, tasks_of, skipped, literal_tasks, first_node, skipped_node, part_found, part_tasks, compound_found, compound_tasks, goal_node_found, goal_node_tasks, is_hat_symbol, found_by, tasks_by, goal_found, goal_tasks}
 
 -- ---- tasks
 
+tasks_next : (f : Kind → Task) (n : ℕ) (xs : List Kind) → tasks_of f (suc n) xs ≡ tasks_of f n xs ++ f (get_or xs n Plain) ∷ []
+tasks_next f zero [] = refl
+tasks_next f zero (x ∷ xs) = refl
+tasks_next f (suc n) [] = ap (λ (ts : List Task). f Plain ∷ ts) (tasks_next f n [])
+tasks_next f (suc n) (x ∷ xs) = ap (λ (ts : List Task). f x ∷ ts) (tasks_next f n xs)
+
 -- one task more
 pub tasks_more : (f : Kind → Task) (n : ℕ) (xs : List Kind) → tasks_of f (n + 1) xs ≡ tasks_of f n xs ++ f (get_or xs n Plain) ∷ []
-tasks_more f zero [] = refl
-tasks_more f zero (x ∷ xs) = refl
-tasks_more f (suc n) [] = ap (λ (ts : List Task). f Plain ∷ ts) (tasks_more f n [])
-tasks_more f (suc n) (x ∷ xs) = ap (λ (ts : List Task). f x ∷ ts) (tasks_more f n xs)
+tasks_more f n xs = let e : n + 1 ≡ suc n = omega arith in rw e (tasks_next f n xs)
 
 needs-append : (ts rest : List Task) → needs (ts ++ rest) ≡ needs ts + needs rest
-needs-append [] rest = refl
-needs-append (Argument h x ∷ ts) rest = ap suc (needs-append ts rest)
+needs-append [] rest = omega arith
+needs-append (Argument h x ∷ ts) rest = omega (arith, needs-append ts rest)
 needs-append (Fresh h x ∷ ts) rest = needs-append ts rest
 
 needs_arguments : (h : Option Pi) (n : ℕ) (xs : List Kind) → needs (tasks_of (Argument h) n xs) ≡ n
@@ -77,13 +81,12 @@ module _ (ks : Kinds) where
 
   shows_arguments : (h : Option Pi) (ts : Trees) (xs : List Kind) (k : ℕ) (rest : List Task) (us : List Tree) →
       tasks_show ks (tasks_of (Argument h) (arity ts) xs ++ (tasks_of (Fresh h) k (drop (arity ts) xs) ++ rest)) (tree_list ts ++ us) ≡ shown_in ks h ts xs k ++ tasks_show ks rest us
-  unfolding shown
+  unfolding shown fresh
   shows_arguments h no_trees xs k rest us = shows_fresh h k xs rest us
   shows_arguments h (tree t ts) [] k rest us =
       shows_skipped h ts (tasks_of (Fresh h) k [] ++ rest) us ∙ shows_fresh h k [] rest us ∙ ap (λ (fs : List Found). fs ++ tasks_show ks rest us) (none k)
     where
       none : (n : ℕ) → fresh h n [] ≡ []
-      unfolding fresh
       none zero = refl
       none (suc n) = refl
   shows_arguments h (tree t ts) (x ∷ xs) k rest us =
@@ -125,7 +128,7 @@ Marked bs (atom f) = ⊤
 Marked bs (compound f no_trees) = ⊤
 Marked bs (compound f (tree u us)) = (get_or bs 0 true ≡ is_body (compound f (tree u us))) × (get_or bs 1 true ≡ is_body u)
 
-last_of : List Bool → Bool
+abbrev last_of : List Bool → Bool
 last_of [] = true
 last_of (b ∷ []) = b
 last_of (b ∷ (c ∷ bs)) = last_of (c ∷ bs)
@@ -196,35 +199,40 @@ arity-added zero = refl
 arity-added (suc k) = ap suc (arity-added k)
 
 arity-with : (ts : Trees) (k : ℕ) → arity (with_variables ts k) ≡ arity ts + k
-arity-with no_trees k = arity-added k
-arity-with (tree t ts) k = ap suc (arity-with ts k)
+arity-with no_trees k = omega (arith, arity-added k)
+arity-with (tree t ts) k = omega (arith, arity-with ts k)
+
+compound_body : (f : List ℕ) (vs : Trees) → is_body (compound f vs) ≡ (if is_connective f && arity vs == 2 then are_bodies vs else true)
+unfolding is_body
+compound_body f vs = refl
+
+and_true : (b : Bool) → b ≡ (b && (true && true))
+and_true true = refl
+and_true false = refl
+
+some_added : (n : ℕ) → (suc n == 0) ≡ false
+some_added n = grind arith
+
+-- one argument and one fresh variable
+one_body : (u : Tree) (vs : Trees) (i : ℕ) → suc (arity vs) + suc i ≡ 2 → is_body u ≡ are_bodies (tree u (with_variables vs (suc i)))
+unfolding is_body
+one_body u no_trees zero e = and_true (is_body u)
+one_body u no_trees (suc i) e = absurd (omega (arith, e))
+one_body u (tree v vs) i e = absurd (omega (arith, e))
 
 -- whether a compound with fresh variables behind its arguments is a body
 extends-body : (f : List ℕ) (ts : Trees) (k : ℕ) (bs : List Bool) → 1 ≤ arity ts → Marked bs (compound f ts) → extends k f (arity ts) bs ≡ is_body (compound f (with_variables ts k))
 extends-body f no_trees k bs s m = absurd (omega (arith, s))
 extends-body f (tree u us) zero bs s m = m.0 ∙ ap (λ (vs : Trees). is_body (compound f vs)) (sym (with_none (tree u us)))
 extends-body f (tree u us) (suc j) bs s m =
-    by (is_connective f && arity (tree u us) + suc j == 2) refl
+    ap (λ (b : Bool). if b then get_or bs 0 true else if is_connective f && arity (tree u us) + suc j == 2 then get_or bs 1 true else true) (some_added j)
+    ∙ by (is_connective f && arity (tree u us) + suc j == 2) refl
     ∙ ap (λ (n : ℕ). if is_connective f && n == 2 then are_bodies (with_variables (tree u us) (suc j)) else true) (sym (arity-with (tree u us) (suc j)))
-    ∙ sym (body_is (with_variables (tree u us) (suc j)))
+    ∙ sym (compound_body f (with_variables (tree u us) (suc j)))
   where
-    body_is : (vs : Trees) → is_body (compound f vs) ≡ (if is_connective f && arity vs == 2 then are_bodies vs else true)
-    unfolding is_body
-    body_is vs = refl
-
-    and_true : (b : Bool) → b ≡ (b && (true && true))
-    and_true true = refl
-    and_true false = refl
-
-    one : (vs : Trees) (i : ℕ) → suc (arity vs) + suc i ≡ 2 → is_body u ≡ are_bodies (tree u (with_variables vs (suc i)))
-    unfolding is_body
-    one no_trees zero e = and_true (is_body u)
-    one no_trees (suc i) e = absurd (omega (arith, e))
-    one (tree v vs) i e = absurd (omega (arith, e))
-
     by : (b : Bool) → (is_connective f && arity (tree u us) + suc j == 2) ≡ b →
         (if is_connective f && arity (tree u us) + suc j == 2 then get_or bs 1 true else true) ≡ (if is_connective f && arity (tree u us) + suc j == 2 then are_bodies (with_variables (tree u us) (suc j)) else true)
-    by true e = rw e (m.1 ∙ one us j (eqb-true (arity (tree u us) + suc j) 2 (and_parts (is_connective f) (arity (tree u us) + suc j == 2) e).1))
+    by true e = rw e (m.1 ∙ one_body u us j (eqb-true (arity (tree u us) + suc j) 2 (and_parts (is_connective f) (arity (tree u us) + suc j == 2) e).1))
     by false e = rw e refl
 
 -- ---- one term
@@ -303,7 +311,9 @@ module _ (ks : Kinds) (h : Option Pi) where
   opens_goal (variable n) k bs w m = record { shows = λ rest us. refl; takes = refl; }
   opens_goal (integer z) k bs w m = record { shows = λ rest us. refl; takes = refl; }
   opens_goal (atom f) k bs w m = record {
-    shows = λ rest us. ap (λ (fs : List Found). Place h Opens ∷ Literal (indicator f k) ∷ fs) (shows_literal ks f no_trees k rest us);
+    shows = λ rest us.
+        ap (λ (fs : List Found). Place h Opens ∷ Literal (indicator f k) ∷ fs)
+        (shows_literal ks f no_trees k rest us ∙ ap (λ (n : ℕ). shown_in ks (Some (indicator f n)) no_trees (ks (indicator f n)) k ++ tasks_show ks rest us) (let e : 0 + k ≡ k = omega arith in e));
     takes = needs_literal ks f no_trees k;
   }
   opens_goal (compound f ts) k bs w m =
@@ -417,6 +427,27 @@ module _ (ks : Kinds) (whole found : List Found) (rest : List Task) where
       subst (λ (ys : List Node). IsReading ks whole (found ++ found_by h x ys (bodies_at ys)) (tasks_by ks x h ys (bodies_at ys) ++ rest) (build ms)) (sym here)
       (node_turn h x n ms (subst AreTermNodes here a) (subst (λ (ys : List Node). IsReading ks whole found (Argument h x ∷ rest) (build ys)) here r))
 
+-- where all is read
+pub reading_begins : (ks : Kinds) (t : Tree) (x : Kind) (found : List Found) (tasks : List Task) (ns : List Node) → found ≡ [] → tasks ≡ Argument None x ∷ [] → ns ≡ flatten t → IsReading ks (shown ks None t x) found (reverse tasks) (build (drop 0 ns))
+reading_begins ks t x found tasks ns e g n =
+    subst (λ (fs : List Found). IsReading ks (shown ks None t x) fs (reverse tasks) (build (drop 0 ns))) (sym e)
+    (subst (λ (ts : List Task). IsReading ks (shown ks None t x) [] (reverse ts) (build (drop 0 ns))) (sym g)
+    (subst (λ (us : List Tree). IsReading ks (shown ks None t x) [] (Argument None x ∷ []) us) (sym (ap build (n ∙ sym (append-nil (flatten t))) ∙ build-flatten t []))
+    (record { needed = refl; all = append-nil (shown ks None t x); })))
+
+-- the next task is taken off the end
+pub task_last : (old mid : List Task) (t : Task) → old ≡ mid ++ t ∷ [] → t ∷ reverse mid ≡ reverse old
+task_last old mid t e = sym (ap reverse e ∙ reverse-append mid (t ∷ []))
+
+pub next_has_node : (ks : Kinds) (whole found : List Found) (ts : List Task) (t : Task) (us : List Tree) → IsReading ks whole found (t ∷ ts) us → HasNode t us
+next_has_node ks whole found ts (Fresh h x) us r = tt
+next_has_node ks whole found ts (Argument h x) us r = omega (arith, r.needed)
+
+pub reading_ends : (ks : Kinds) (whole found : List Found) (ts : List Task) (us : List Tree) → ts ≡ [] → IsReading ks whole found (reverse ts) us → found ≡ whole
+reading_ends ks whole found ts us e r =
+    let q : IsReading ks whole found [] us = subst (λ (vs : List Task). IsReading ks whole found (reverse vs) us) e r in
+    sym (append-nil found) ∙ q.all
+
 -- the tasks of a node, put before the others
 pub put_before : (old new ots : List Task) → new ≡ old ++ reverse ots → reverse new ≡ ots ++ reverse old
 put_before old new ots e = ap reverse e ∙ reverse-append old (reverse ots) ∙ ap (λ (ts : List Task). ts ++ reverse old) (reverse-reverse ots)
@@ -429,6 +460,26 @@ bodies_drop (suc at) (n ∷ ns) = bodies_drop at ns
 pub length-bodies : (ns : List Node) → length (bodies_at ns) ≡ length ns
 length-bodies [] = refl
 length-bodies (n ∷ ns) = ap suc (length-bodies ns)
+
+-- there is a node for an argument
+pub has_node : (t : Task) (h : Option Pi) (x : Kind) (ns : List Node) (at : ℕ) → t ≡ Argument h x → HasNode t (build (drop at ns)) → at < length ns
+has_node (Fresh g y) h x ns at e n = cc
+has_node (Argument g y) h x ns at e n = omega (arith, n, length-build_le (drop at ns), length-drop at ns)
+
+-- an argument is next, and what it shows comes before the others
+pub takes_argument : (ks : Kinds) (whole before after : List Found) (ts old new : List Task) (task : Task) (h : Option Pi) (x : Kind) (ns rest : List Node) (bs marks : List Bool) (at : ℕ) (fs : List Found) (os : List Task) →
+    AreTermNodes ns → bs ≡ bodies_at ns → HasNode task (build (drop at ns)) → task ≡ Argument h x → rest ≡ drop at ns → marks ≡ drop at bs → fs ≡ found_by h x rest marks → os ≡ tasks_by ks x h rest marks →
+    after ≡ before ++ fs → new ≡ old ++ reverse os → ts ≡ task ∷ reverse old → IsReading ks whole before ts (build (drop at ns)) → IsReading ks whole after (reverse new) (build (drop (at + 1) ns))
+takes_argument ks whole before after ts old new task h x ns rest bs marks at fs os a b node is r m f o e g t reading =
+    let marks_are : marks ≡ bodies_at (drop at ns) = m ∙ ap (drop at) b ∙ bodies_drop at ns in
+    let found : fs ≡ found_by h x (drop at ns) (bodies_at (drop at ns)) = f ∙ ap (λ (ys : List Node). found_by h x ys marks) r ∙ ap (found_by h x (drop at ns)) marks_are in
+    let tasks : os ≡ tasks_by ks x h (drop at ns) (bodies_at (drop at ns)) = o ∙ ap (λ (ys : List Node). tasks_by ks x h ys marks) r ∙ ap (tasks_by ks x h (drop at ns)) marks_are in
+    let start : IsReading ks whole before (Argument h x ∷ reverse old) (build (drop at ns)) =
+    subst (λ (us : List Task). IsReading ks whole before us (build (drop at ns))) (t ∙ ap (λ (u : Task). u ∷ reverse old) is) reading in
+    subst (λ (ys : List Found). IsReading ks whole ys (reverse new) (build (drop (at + 1) ns))) (sym (e ∙ ap (λ (ys : List Found). before ++ ys) found))
+    (subst (λ (us : List Task). IsReading ks whole (before ++ found_by h x (drop at ns) (bodies_at (drop at ns))) us (build (drop (at + 1) ns)))
+    (sym (put_before old new os g ∙ ap (λ (us : List Task). us ++ reverse old) tasks))
+    (argument_turn ks whole before (reverse old) h x ns at (has_node task h x ns at is node) (AreTermNodes-drop at ns a) start))
 
 pub called_by : (i j : Pi) → i ≡ indicator (codes "call") 1 → j ≡ i → Literal i ∷ Place (Some j) Unbound ∷ [] ≡ called_variable
 called_by i j e g = rw (g, e) refl

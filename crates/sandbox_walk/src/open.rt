@@ -70,6 +70,7 @@ fn nothing(alloc: Global) -> Opened
 }
 
 // What was found, where the arguments aren't looked at.
+#[tactic(auto, using(crate::proofs::Reading::tasks_more))]
 fn unopened(alloc: Global, count: u32, found: Vec<Found>) -> Result<Opened, Memory>
     ensures found { IfOk result (λ o. o.found.items ≡ found.items) }
     ensures tasks { IfOk result (λ o. o.tasks.items ≡ skipped_tasks count) }
@@ -227,6 +228,7 @@ fn literal(
 }
 
 // So many arguments of the literal, each with how it is read.
+#[tactic(auto, using(crate::proofs::Reading::tasks_more))]
 fn arguments(
     alloc: Global,
     holder: &Option<Pi>,
@@ -243,6 +245,7 @@ fn arguments(
 }
 
 // So many fresh variables.
+#[tactic(auto, using(crate::proofs::Reading::tasks_more))]
 fn variables(
     alloc: Global,
     holder: &Option<Pi>,

@@ -1,5 +1,5 @@
 // What a text shows: its literals and goal positions, from left to right.
-ghost use Rattle.std.specs.Prelude.{◌≡◌, ◌++◌, ◌∷◌, List, reverse, drop, OnOk, IfOk, None as none};
+ghost use Rattle.std.specs.Prelude.{◌≡◌, ◌++◌, ◌∷◌, ◌≤◌, length, List, reverse, drop, OnOk, IfOk, None as none};
 ghost use Rattle.term_core.specs.Flat.{build};
 ghost use Rattle.term_core.specs.Preorder.{AreTermNodes};
 ghost use Rattle.sandbox_walk.specs.declared.found.Found.{Found as Finding};
@@ -88,12 +88,28 @@ fn take(
         }
         Task::Argument(holder, kind) => {
             let at = reading.at;
-            let opened = open(alloc, table, holder, *kind, &nodes[at..], &bodies[at..])?;
+            let rest = nodes_from(nodes, at);
+            let marks = bodies_from(bodies, at);
+            let opened = open(alloc, table, holder, *kind, rest, marks)?;
             put(opened, reading)?;
             reading.at = at + 1;
         }
     }
     Ok(())
+}
+
+fn nodes_from(nodes: &[Node], at: usize) -> &[Node]
+    requires { at ≤ length nodes.now }
+    ensures { result.now ≡ drop at nodes.now }
+{
+    &nodes[at..]
+}
+
+fn bodies_from(bodies: &[bool], at: usize) -> &[bool]
+    requires { at ≤ length bodies.now }
+    ensures { result.now ≡ drop at bodies.now }
+{
+    &bodies[at..]
 }
 
 // Takes in what a node shows; its arguments are next.
