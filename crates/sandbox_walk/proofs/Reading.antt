@@ -268,16 +268,16 @@ module _ (ks : Kinds) (h : Option Pi) where
 
   opens_plain : (t : Tree) → Opened ks h Plain t [] (skipped_node (symbol_of t))
   unfolding shown
-  opens_plain (variable n) = record { shows = λ rest us. refl; takes = refl; }
-  opens_plain (integer z) = record { shows = λ rest us. refl; takes = refl; }
-  opens_plain (atom f) = record { shows = λ rest us. refl; takes = refl; }
-  opens_plain (compound f ts) = record { shows = λ rest us. shows_skipped ks None ts rest us; takes = needs_arguments None (arity ts) [] ∙ sym (length-tree_list ts); }
+  opens_plain (variable n) = record { shows = λ rest us. refl; takes = refl }
+  opens_plain (integer z) = record { shows = λ rest us. refl; takes = refl }
+  opens_plain (atom f) = record { shows = λ rest us. refl; takes = refl }
+  opens_plain (compound f ts) = record { shows = λ rest us. shows_skipped ks None ts rest us; takes = needs_arguments None (arity ts) [] ∙ sym (length-tree_list ts) }
 
   opens_part : (t : Tree) → Opened ks h Part t (part_found (symbol_of t)) (part_tasks ks (symbol_of t))
   unfolding shown
-  opens_part (variable n) = record { shows = λ rest us. refl; takes = refl; }
-  opens_part (integer z) = record { shows = λ rest us. refl; takes = refl; }
-  opens_part (atom f) = record { shows = λ rest us. refl; takes = refl; }
+  opens_part (variable n) = record { shows = λ rest us. refl; takes = refl }
+  opens_part (integer z) = record { shows = λ rest us. refl; takes = refl }
+  opens_part (atom f) = record { shows = λ rest us. refl; takes = refl }
   opens_part (compound f ts) = record {
     shows = λ rest us. ap (λ (fs : List Found). Literal (indicator f (arity ts + 0)) ∷ fs) (shows_literal ks f ts 0 rest us) ∙ ap (λ (fs : List Found). fs ++ tasks_show ks rest us) (no_more ks f ts);
     takes = needs_literal ks f ts 0;
@@ -308,8 +308,8 @@ module _ (ks : Kinds) (h : Option Pi) where
 
   opens_goal : (t : Tree) (k : ℕ) (bs : List Bool) → IsTerm t → Marked bs t → Opened ks h (Adds k) t (goal_node_found h k t bs (symbol_of t)) (goal_node_tasks ks k bs (symbol_of t))
   unfolding shown
-  opens_goal (variable n) k bs w m = record { shows = λ rest us. refl; takes = refl; }
-  opens_goal (integer z) k bs w m = record { shows = λ rest us. refl; takes = refl; }
+  opens_goal (variable n) k bs w m = record { shows = λ rest us. refl; takes = refl }
+  opens_goal (integer z) k bs w m = record { shows = λ rest us. refl; takes = refl }
   opens_goal (atom f) k bs w m = record {
     shows = λ rest us.
         ap (λ (fs : List Found). Place h Opens ∷ Literal (indicator f k) ∷ fs)
@@ -433,7 +433,7 @@ reading_begins ks t x found tasks ns e g n =
     subst (λ (fs : List Found). IsReading ks (shown ks None t x) fs (reverse tasks) (build (drop 0 ns))) (sym e)
     (subst (λ (ts : List Task). IsReading ks (shown ks None t x) [] (reverse ts) (build (drop 0 ns))) (sym g)
     (subst (λ (us : List Tree). IsReading ks (shown ks None t x) [] (Argument None x ∷ []) us) (sym (ap build (n ∙ sym (append-nil (flatten t))) ∙ build-flatten t []))
-    (record { needed = refl; all = append-nil (shown ks None t x); })))
+    (record { needed = refl; all = append-nil (shown ks None t x) })))
 
 -- the next task is taken off the end
 pub task_last : (old mid : List Task) (t : Task) → old ≡ mid ++ t ∷ [] → t ∷ reverse mid ≡ reverse old
