@@ -1,5 +1,5 @@
 -- What a text shows, a node at a time.
-use Rattle.std.proofs.Common.{◌≡◌, ℕ, min, take, drop, get_or, zero, suc, ◌+◌, ◌-◌, ◌<◌, ◌≤◌, ℤ, Bool, true, false, ◌&&◌, ◌==◌, List, [], ◌∷◌, ◌++◌, length, reverse, nat_lt, if◌then◌else◌, codes, bytes_eq, Option, Some, None, refl, ap, sym, subst, ◌∙◌, append_assoc, append-nil, arith}
+use Rattle.std.proofs.Common.{◌≡◌, ℕ, take, drop, get_or, zero, suc, ◌+◌, ◌-◌, ◌<◌, ◌≤◌, Bool, true, false, ◌&&◌, ◌==◌, List, [], ◌∷◌, ◌++◌, length, reverse, nat_lt, if◌then◌else◌, codes, bytes_eq, Option, Some, None, refl, ap, sym, subst, ◌∙◌, append_assoc, append-nil, arith}
 use Rattle.std.specs.Bool.{⊤}
 use Rattle.std.specs.List.{flat_map}
 use Rattle.std.proofs.lemmas.Bool.{lt-ltb, le-ltb, ltb-true, and_parts, eqb-true}
@@ -24,7 +24,7 @@ use Rattle.sandbox_walk.specs.declared.found.Found.TheVariants.{Literal, Place}
 use Rattle.sandbox_walk.specs.declared.shown.Task.{Task}
 use Rattle.sandbox_walk.specs.declared.shown.Task.TheVariants.{Argument, Fresh}
 use Rattle.sandbox_walk.specs.Shown.{Kinds, shown, shown_in, fresh, fresh_one, indicator, called_variable, variables_added, with_variables, stands, stands_if, placed, too_many, is_hat}
-use Rattle.sandbox_walk.specs.Pending.{begins_body, body_of, with_body, tree_bodies, bodies_at, extends, tasks_show, needs, HasNode, IsReading, tasks_of, skipped, literal_tasks, first_node, skipped_node, part_found, part_tasks, compound_found, compound_tasks, goal_node_found, goal_node_tasks, is_hat_symbol, found_by, tasks_by, goal_found, goal_tasks}
+use Rattle.sandbox_walk.specs.Pending.{body_of, with_body, tree_bodies, bodies_at, extends, tasks_show, needs, HasNode, IsReading, tasks_of, literal_tasks, skipped_node, part_found, part_tasks, compound_found, compound_tasks, goal_node_found, goal_node_tasks, is_hat_symbol, found_by, tasks_by}
 
 -- ---- tasks
 

@@ -31,7 +31,7 @@ pub(crate) struct Opened {
 }
 
 // How far a text is read.
-#[derive(Debug, Drop)]
+#[derive(Drop)]
 pub(crate) struct Reading {
     pub(crate) found: Vec<Found>,
     // the next one last

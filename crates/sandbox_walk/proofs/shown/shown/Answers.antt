@@ -1,10 +1,7 @@
-use Rattle.std.proofs.Common.{reverse, drop, sym}
-use Rattle.term_core.specs.Flat.{build}
+use Rattle.std.proofs.Common.{reverse, sym}
 use Rattle.term_core.proofs.Preorder.{AreTermNodes-flatten}
-use Rattle.std.proofs.Common.{None, subst, List}
-use Rattle.sandbox_walk.specs.declared.shown.Task.{Task}
+use Rattle.std.proofs.Common.{None}
 use Rattle.sandbox_walk.specs.Shown.{kinds_in, shown}
-use Rattle.sandbox_walk.specs.Pending.{IsReading}
 use Rattle.sandbox_walk.proofs.Reading.{reading_begins, task_last}
 use Rattle.sandbox_walk.proofs.shown.shown.Goals as goal
 

@@ -1,4 +1,4 @@
-use Rattle.std.proofs.Common.{◌<◌, ◌≤◌, length, List, Bool, ap, sym, subst, ◌∙◌, arith}
+use Rattle.std.proofs.Common.{◌<◌, length, List, Bool, ap, sym, subst, arith}
 use Rattle.term_core.specs.Preorder.{AreTermNodes}
 use Rattle.term_core.proofs.Preorder.{AreTermNodes-drop}
 use Rattle.sandbox_walk.specs.Shown.{kinds_in}
