@@ -120,8 +120,6 @@ fn results(alloc: Global, kind: BagKind, copies: &[Term]) -> Result<PlacedOffers
         BagKind::Bagof { witness: _ } => {
             placed_group_offers(alloc, Arrangement::AsFound, copies)
         }
-        BagKind::Setof { witness: _ } => {
-            placed_group_offers(alloc, Arrangement::Sorted, copies)
-        }
+        BagKind::Setof { witness: _ } => { placed_group_offers(alloc, Arrangement::Sorted, copies) }
     }
 }

@@ -63,6 +63,6 @@ module _ (P : ℕ → Type 0) where
   events_each style (p ∷ ps) h c held rs =
       step_keeps p.0 (λ q. Each P q.events) (λ r qs. tt) (λ e q g. (h.0, g)) style (part_of style ps) (λ d hs qs. events_each style ps h.1 d hs qs) p.1 c held rs
 
-  each_first : (xs ys : List (ℕ × Event)) → Each P (xs ++ ys) → Each P xs
+  pub each_first : (xs ys : List (ℕ × Event)) → Each P (xs ++ ys) → Each P xs
   each_first [] ys h = tt
   each_first (x ∷ xs) ys h = (h.0, each_first xs ys h.1)

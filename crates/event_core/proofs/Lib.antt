@@ -1,11 +1,13 @@
 pub mod Chunks
 pub mod Coming
+pub mod Covering
 pub mod Cutting
 pub mod Ending
 pub mod Growing
+pub mod Hearing
 pub mod Keeping
-pub mod Local
 pub mod Longer
+pub mod Numbered
 pub mod Parts
 pub mod Prompts
 pub mod Reaching
@@ -13,6 +15,7 @@ pub mod Reading
 pub mod Refusing
 pub mod Resting
 pub mod Rising
-mod Rows
 pub mod Readers
+mod Rows
 pub mod Stepping
+pub mod Terms

@@ -66,7 +66,7 @@ module _ (w : World) (ts us : List Tree) where
       ])
       go (Runs h) =
           cut_waited w.limit _ _
-          ((run_grows_on (λ e. e ≡ Waits) (λ e x. inl x) w.limit first second refl refl (waits_further ts us) (omega arith) (λ k. absurd (omega (arith, k))) refl w.limit w.limit 0 (omega arith) (omega arith) (Goal h 1 false ∷ []) (start g t) false unused (omega arith)).1)
+          ((run_grows_on (λ e. e ≡ Waits) (λ e x. inl x) w.limit first second refl refl refl (waits_further ts us) (omega arith) (λ k. absurd (omega (arith, k))) refl w.limit w.limit 0 (omega arith) (omega arith) (Goal h 1 false ∷ []) (start g t) false unused (omega arith)).1)
       go (Throws b) = inl refl
 
 module _ (fits : Tree → Bool) (t : Tree) where

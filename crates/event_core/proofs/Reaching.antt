@@ -72,7 +72,7 @@ module _ (cs : Loaded) (ts : List Tree) (g t : Tree) where
       ])
       go (Runs k) =
           cut_goes_on n _ _
-          ((run_grows_on (λ e. e ≡ Spent) (λ e x. inr x) n (world_of cs ts n) (world_of cs ts l) refl refl (λ i. inl refl) h (λ i. refl) refl n l 0 (omega arith) (omega arith) (Goal k 1 false ∷ []) (start g t) false unused (omega arith)).1)
+          ((run_grows_on (λ e. e ≡ Spent) (λ e x. inr x) n (world_of cs ts n) (world_of cs ts l) refl refl refl (λ i. inl refl) h (λ i. refl) refl n l 0 (omega arith) (omega arith) (Goal k 1 false ∷ []) (start g t) false unused (omega arith)).1)
       go (Throws b) = inl refl
 
   -- within the limit

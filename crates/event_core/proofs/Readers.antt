@@ -15,7 +15,8 @@ use Rattle.event_core.specs.declared.rest.Rest.{Rest}
 use Rattle.event_core.specs.declared.rest.Rest.TheVariants.{Over}
 use Rattle.event_core.specs.Requests.{chunk_after}
 use Rattle.event_core.specs.Parts.{Part, Style, gives, at_next, is_full, part_of, part_step}
-use Rattle.event_core.specs.Readers.{moves, after_stop, after_fitting, rest_of, is_fitting, resumes, ahead_at, style_with, ahead, tells, listed, HasGiven, RestsAsThePart}
+use Rattle.event_core.specs.Reaching.{ReadsOn}
+use Rattle.event_core.specs.Readers.{moves, after_stop, after_fitting, rest_of, rest_at_end, is_fitting, resumes, ahead_at, style_with, ahead, tells, listed, HasGiven, RestsAsThePart}
 
 abbrev StopList : Type 0
 StopList = List (ℕ × Stop)
@@ -73,7 +74,7 @@ module _ (style : Style) where
   fitting_reads ps c Done (Next d) e rs = cc
 
   -- a reader that rests gives nothing where the next request doesn't fit
-  quiet : Stand → List Request → Part
+  abbrev quiet : Stand → List Request → Part
   quiet s rs = record { events = []; rest = unwrap_or (rest_of s) Over; unread = rs }
 
   stays : (ps : StopList) (c : ℕ) (s : Stand) → is_some (rest_of s) ≡ true → (rs : List Request) → resumes s rs ≡ false → ahead_at style s c ps rs ≡ quiet s rs
@@ -103,8 +104,35 @@ module _ (style : Style) where
 pub tells_twice : (es fs : Steps) (p : Part) → tells es (tells fs p) ≡ tells (es ++ fs) p
 tells_twice es fs p = ap (λ (l : Steps). let q : Part = record p { events = l } in q) (sym (append_assoc es fs p.events))
 
+-- with the event that comes, if one comes, behind the others
+pub tells_more : (old new : Steps) (p q : Part) (e : Option (ℕ × Event)) → p ≡ tells (listed e) q → new ≡ old ++ listed e → tells old p ≡ tells new q
+tells_more old new p q e h k = ap (tells old) h ∙ tells_twice old (listed e) q ∙ ap (λ es. tells es q) (sym k)
+
 pub tells_none : (es : Steps) (x : Rest) (rs : List Request) → tells es (record { events = []; rest = x; unread = rs }) ≡ record { events = es; rest = x; unread = rs }
 tells_none es x rs = ap (λ (l : Steps). let q : Part = record { events = l; rest = x; unread = rs } in q) (append-nil es)
+
+is_reading : (s : Stand) → rest_of s ≡ None → (held : List Tree) × (s ≡ Reading held)
+is_reading (Reading held) e = (held, refl)
+is_reading (Paused p) e = cc
+is_reading Waiting e = cc
+is_reading Done e = cc
+
+-- What was read, where no request goes on: at a rest the stops that are left don't matter, and otherwise none are left.
+pub reads_on : (es : Steps) (r : Reader) (ps : StopList) (left : List Request) (T : StopList → Part) → ((qs : StopList) → T qs ≡ tells es (ahead r (ps ++ qs) left)) → resumes r.stand left ≡ false →
+    (rest : Option Rest) → rest_of r.stand ≡ rest → (rest ≡ None → ps ≡ []) → (ns : Option (List (List ℕ))) → r.names ≡ ns → ReadsOn es rest ns T
+reads_on es r ps left T h f (Some x) e n ns same =
+    (left, λ qs. h qs ∙ ap (tells es) (resting (style_with r.names) (ps ++ qs) r.chunk r.stand x e left f) ∙ tells_none es x left)
+reads_on es r ps left T h f None e n ns same =
+    let s : (held : List Tree) × (r.stand ≡ Reading held) = is_reading r.stand e in (
+      r.chunk,
+      s.0,
+      left,
+      λ qs.
+          h qs
+          ∙ ap (λ l. tells es (ahead r (l ++ qs) left)) (n refl)
+          ∙ ap (λ x. tells es (ahead_at (style_with r.names) x r.chunk qs left)) s.1
+          ∙ ap (λ y. tells es (part_of (style_with y) qs r.chunk s.0 left)) same,
+    )
 
 -- ---- one stop, one request
 
@@ -119,11 +147,13 @@ read_brings old new held e k s m is becomes qs rs =
     ∙ ap (λ y. tells (listed m.event) (ahead y qs rs)) (sym becomes)
 
 -- a reader that rests, after a request that fits
-pub resume_brings : (old new : Reader) (r : Request) → is_fitting old.stand r ≡ true → (m : Moved) → m ≡ after_fitting (style_with old.names) (chunk_after r old.chunk) old.stand →
-    new ≡ record { chunk = chunk_after r old.chunk; names = old.names; stand = m.stand } → (qs : StopList) (rs : List Request) → ahead old qs (r ∷ rs) ≡ tells (listed m.event) (ahead new qs rs)
-resume_brings old new r fits m is becomes qs rs =
+pub resume_brings : (old new : Reader) (r : Request) → is_fitting old.stand r ≡ true → (c : ℕ) → c ≡ chunk_after r old.chunk → (s : Stand) → s ≡ old.stand → (m : Moved) → m ≡ after_fitting (style_with old.names) c s →
+    new ≡ record { chunk = c; names = old.names; stand = m.stand } → (qs : StopList) (rs : List Request) → ahead old qs (r ∷ rs) ≡ tells (listed m.event) (ahead new qs rs)
+resume_brings old new r fits c chunk s stand m is becomes qs rs =
     fitting_reads (style_with old.names) qs old.chunk old.stand r fits rs
-    ∙ ap (λ x. behind (style_with old.names) (chunk_after r old.chunk) x qs rs) (sym is)
+    ∙ ap (λ k. behind (style_with old.names) k (after_fitting (style_with old.names) k old.stand) qs rs) (sym chunk)
+    ∙ ap (λ x. behind (style_with old.names) c (after_fitting (style_with old.names) c x) qs rs) (sym stand)
+    ∙ ap (λ x. behind (style_with old.names) c x qs rs) (sym is)
     ∙ ap (λ y. tells (listed m.event) (ahead y qs rs)) (sym becomes)
 
 -- ---- over prefixes
@@ -149,10 +179,24 @@ module _ (ns : Option (List (List ℕ))) (c : ℕ) (ps : StopList) (rs : List Re
         ∙ tells_twice es fs (ahead new qs more);
   }
 
+-- ---- all stops
+
+nothing_ahead : (style : Style) (c : ℕ) (s : Stand) → ahead_at style s c [] [] ≡ record { events = []; rest = rest_at_end s; unread = [] }
+unfolding part_of
+nothing_ahead style c (Reading held) = refl
+nothing_ahead style c (Paused None) = refl
+nothing_ahead style c (Paused (Some p)) = refl
+nothing_ahead style c Waiting = refl
+nothing_ahead style c Done = refl
+
 pub rests_as_the_part : RestsAsThePart
-rests_as_the_part ns c ps rs es r h x e =
+rests_as_the_part ns c ps rs es r h =
     ap (λ l. part_of (style_with ns) l c [] rs) (sym (append-nil ps))
     ∙ ap (λ l. part_of (style_with ns) (ps ++ []) c [] l) (sym (append-nil rs))
     ∙ h.part [] []
-    ∙ ap (tells es) (resting (style_with r.names) [] r.chunk r.stand x e [] refl)
-    ∙ tells_none es x []
+    ∙ ap (tells es) (nothing_ahead (style_with r.names) r.chunk r.stand)
+    ∙ tells_none es (rest_at_end r.stand) []
+
+-- before the first stop
+pub starts_reading : (ns : Option (List (List ℕ))) (c : ℕ) (r : Reader) → r ≡ record { chunk = c; names = ns; stand = Reading [] } → HasGiven ns c [] [] [] r
+starts_reading ns c r e = record { same_names = ap (λ (x : Reader). x.names) e; part = λ qs more. ap (λ x. tells [] (ahead x qs more)) (sym e) }

@@ -138,6 +138,7 @@ rising_kept w = record {
   at_answers = λ u a a' k k' h ps ps' step. after_rising u (without_answers a) (k a.marks) (outer_rising u a h) (at_stop (k a.marks) a.end a.used (ps a.marks) (λ x. step a.marks a.end x a.used));
   same_clauses = refl;
   same_primitive = refl;
+  same_outside = refl;
 }
 
 -- after one step more

@@ -14,6 +14,7 @@ use Rattle.event_core.specs.declared.request.Request.{Request}
 use Rattle.event_core.specs.declared.settings.Settings.{Settings}
 use Rattle.event_core.specs.Stops.{stops}
 use Rattle.event_core.specs.Names.{answer_term}
+use Rattle.event_core.specs.Full.{Spec, Act, Reading, full_from}
 use Rattle.event_core.specs.Parts.{Style, part_of, part, replies}
 use Rattle.event_core.specs.Refusals.{refusal_of}
 use Rattle.event_core.specs.Summaries.{summary, IsComplete}
@@ -57,6 +58,10 @@ StaysInside w g t = (i : Pi) → (query w g t).end ≢ Outside i
 abbrev pub StepsNeverFall : Type 0
 StepsNeverFall =
     (w : World) (fits : Tree → Bool) (style : Style) (g t : Tree) (c : ℕ) (rs : List Request) → AllPairs (λ x y. x.0 ≤ y.0) (part w fits style g t c rs).events
+
+-- Whatever is sent and strikes later, the events that were emitted stay.
+abbrev pub EventsOnlyGrow : Type 0
+EventsOnlyGrow = (spec : Spec) (acts : List Act) (rs : List Request) (c : ℕ) (x : Reading) → Begins x.emitted (full_from spec acts rs c x)
 
 -- the world with the replies that these requests bring
 abbrev pub replying : World → List Request → World

@@ -6,7 +6,6 @@ pub mod Lines
 pub mod Local
 pub mod Names
 pub mod Parts
-pub mod Pengines
 pub mod Reaching
 pub mod Readers
 pub mod Refusals

@@ -1,7 +1,9 @@
 -- What a query comes to by itself: all its answers, and how it ends (Lager and Wielemaker, TPLP 2014, section 3).
 use Rattle.std.specs.Prelude.{◌≡◌, ℕ, Bool, true, false, List, [], ◌∷◌, ◌++◌, map, Option, Some, None}
 use Rattle.term_core.specs.Tree.{Tree}
+use Rattle.program.specs.Loaded.{Loaded}
 use Rattle.solve_model.specs.Run.{World}
+use Rattle.sandbox_walk.specs.Keeping.{KeepsSandbox}
 use Rattle.event_core.specs.declared.stop.Stop.{Stop}
 use Rattle.event_core.specs.declared.stop.Stop.TheVariants as stop
 use Rattle.event_core.specs.declared.event.Kind.{Kind}
@@ -9,7 +11,9 @@ use Rattle.event_core.specs.declared.event.Event.{Event}
 use Rattle.event_core.specs.declared.event.Event.TheVariants as event
 use Rattle.event_core.specs.declared.event.EventName.{EventName}
 use Rattle.event_core.specs.declared.event.EventName.TheVariants as name
+use Rattle.event_core.specs.declared.request.Ask.{Ask}
 use Rattle.event_core.specs.declared.request.Request.{Request}
+use Rattle.event_core.specs.declared.settings.Settings.{Settings}
 use Rattle.event_core.specs.declared.local.End.{End}
 use Rattle.event_core.specs.declared.local.End.TheVariants.{NoMore, Failure, Ball, Limit, Prompt, Memory}
 use Rattle.event_core.specs.declared.local.Answers.{Answers}
@@ -17,6 +21,8 @@ use Rattle.event_core.specs.Stops.{stops}
 use Rattle.event_core.specs.Parts.{Style, part, replies}
 use Rattle.event_core.specs.Summaries.{IsComplete}
 use Rattle.event_core.specs.Laws.{StaysInside, replying}
+use Rattle.event_core.specs.Refusals.{refusal_of}
+use Rattle.event_core.specs.Standing.{stops_for, spec_of}
 
 -- what an event is called; a protocol error is told as an error
 abbrev pub name_of : Event → EventName
@@ -94,3 +100,9 @@ ReadsAreLocal =
     (protocol : Kind → Tree) (w : World) (fits : Tree → Bool) (style : Style) (g t : Tree) (c : ℕ) (rs : List Request) → replies rs ≡ [] → StaysInside (replying w []) g t →
     IsComplete (part w fits style g t c rs) →
     (x : Answers) × (heard_from (tellings protocol (part w fits style g t c rs).events) [] ≡ Some x) × (local None (stops fits (replying w []) g t) ≡ Some x)
+
+-- Over a program that keeps to the sandbox: the same of a query that may be asked and that nobody replies to, where the pengine has these settings.
+abbrev pub AskedReadsAreLocal : Type 0
+AskedReadsAreLocal =
+    (protocol : Kind → Tree) (l : Loaded) (s : Settings) (a : Ask) → KeepsSandbox l → refusal_of l a ≡ None → (rs : List Request) → replies rs ≡ [] → IsComplete ((spec_of l s).part a rs) →
+    (x : Answers) × (heard_from (tellings protocol ((spec_of l s).part a rs).events) [] ≡ Some x) × (local (refusal_of l a) (stops_for l s a []) ≡ Some x)

@@ -1,5 +1,5 @@
 -- The term of which each answer of a query gives an instance, and the names that stand with it.
-use Rattle.std.specs.Prelude.{ℕ, Bool, true, false, List, [], ◌∷◌, map, Option, Some, None, codes}
+use Rattle.std.specs.Prelude.{ℕ, Bool, true, false, List, map, Option, Some, None, codes}
 use Rattle.term_core.specs.Tree.{Tree, variable}
 use Rattle.builtin_table.specs.Errors.{two_arguments}
 use Rattle.builtin_table.specs.Lists.{list_of}

@@ -14,7 +14,7 @@ use Rattle.event_core.specs.declared.fit.Fit.TheVariants.{GoesOn}
 use Rattle.event_core.specs.declared.request.Request.{Request}
 use Rattle.event_core.specs.declared.rest.Rest.{Rest}
 use Rattle.event_core.specs.declared.rest.Rest.TheVariants.{More, Prompting, Over}
-use Rattle.event_core.specs.Requests.{fit, chunk_after}
+use Rattle.event_core.specs.Requests.{fit}
 use Rattle.event_core.specs.Texts.{quoted}
 use Rattle.event_core.specs.Fits.{text_size}
 use Rattle.event_core.specs.Parts.{Part, Style, rests, at_next, at_respond, is_full, part_of}
@@ -105,8 +105,15 @@ pub record HasGiven (names : Option (List (List ℕ))) (c : ℕ) (ps : List (ℕ
   pub same_names : r.names ≡ names
   pub part : (qs : List (ℕ × Stop)) (more : List Request) → part_of (style_with names) (ps ++ qs) c [] (rs ++ more) ≡ tells es (ahead r qs more)
 
--- where the reader rests so does the part, and the reader has given all its events
+-- where it rests if no stop is left: a run whose stops end without an end waits for a reply
+abbrev pub rest_at_end : Stand → Rest
+rest_at_end (Reading ts) = Prompting
+rest_at_end (Paused p) = More
+rest_at_end Waiting = Prompting
+rest_at_end Done = Over
+
+-- Where these are all stops, the reader has given all events of the part, and rests where the part rests.
 abbrev pub RestsAsThePart : Type 0
 RestsAsThePart =
     (names : Option (List (List ℕ))) (c : ℕ) (ps : List (ℕ × Stop)) (rs : List Request) (es : List (ℕ × Event)) (r : Reader) →
-    HasGiven names c ps rs es r → (x : Rest) → rest_of r.stand ≡ Some x → part_of (style_with names) ps c [] rs ≡ record { events = es; rest = x; unread = [] }
+    HasGiven names c ps rs es r → part_of (style_with names) ps c [] rs ≡ record { events = es; rest = rest_at_end r.stand; unread = [] }

@@ -1,5 +1,5 @@
 -- The terms that events tell.
-use Rattle.std.specs.Prelude.{◌≡◌, ℕ, List, [], ◌∷◌}
+use Rattle.std.specs.Prelude.{◌≡◌, List, [], ◌∷◌}
 use Rattle.term_core.specs.Tree.{Tree}
 use Rattle.term_core.specs.Variables.{numbered}
 use Rattle.program.specs.Loaded.{Loaded}

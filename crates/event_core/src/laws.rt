@@ -1,7 +1,8 @@
 // Laws that hold of the events of every query.
-ghost use Rattle.event_core.specs.Laws.{FurtherOnlyAdds, RequestsOnlyAdd, StepsOnlyAdd, ChunksDontMatter, EnoughCanBeAsked, StepsNeverFall, AskedGoalsStayInside};
-ghost use Rattle.event_core.specs.Local.{ReadsAreLocal};
+ghost use Rattle.event_core.specs.Laws.{FurtherOnlyAdds, RequestsOnlyAdd, StepsOnlyAdd, ChunksDontMatter, EnoughCanBeAsked, StepsNeverFall, AskedGoalsStayInside, EventsOnlyGrow};
+ghost use Rattle.event_core.specs.Local.{ReadsAreLocal, AskedReadsAreLocal};
 ghost use Rattle.event_core.specs.Readers.{RestsAsThePart};
+ghost use Rattle.event_core.specs.Terms.{TermsAreNumbered};
 
 /// Further requests and further stops only add: the events that were given stay.
 pub fn further_only_adds()
@@ -38,7 +39,7 @@ pub fn asked_goals_stay_inside()
     ensures { AskedGoalsStayInside }
 {}
 
-/// Where a reader of stops rests, the events of the query rest as well: it has given all that these stops decide for these requests.
+/// Where the stops read are all of a query, the reader has given all its events for the requests read, and rests where the query rests.
 pub fn readers_rest_as_parts_do()
     ensures { RestsAsThePart }
 {}
@@ -46,4 +47,19 @@ pub fn readers_rest_as_parts_do()
 /// What a client makes of all events of a query that was asked enough is what the local run comes to, whatever the size of the chunks: the same answers and the same end.
 pub fn reads_are_local()
     ensures { ReadsAreLocal }
+{}
+
+/// The same of a query that may be asked over a program that keeps to the sandbox, for a pengine's settings: what a client makes of all its events is what the query comes to by itself.
+pub fn asked_reads_are_local()
+    ensures { AskedReadsAreLocal }
+{}
+
+/// Whatever is sent to a pengine and strikes it later, the events that it has emitted stay.
+pub fn events_only_grow()
+    ensures { EventsOnlyGrow }
+{}
+
+/// The variables of each term of all events of a pengine are numbered from 0 by first occurrence, whatever is sent and strikes.
+pub fn terms_are_numbered()
+    ensures { TermsAreNumbered }
 {}

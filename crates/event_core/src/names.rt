@@ -2,23 +2,21 @@
 ghost use Rattle.std.specs.Prelude.{◌≡◌, IfOk, map};
 ghost use Rattle.term_core.specs.Tree.{variable};
 ghost use Rattle.event_core.specs.Names.{answer_term, names_told};
-ghost use Rattle.builtin_table.specs.Lists.{list_of};
 
 use crate::request::Ask;
 use std::alloc::Global;
 use term_core::{List, Memory, Name, Term};
+use tree_results::list_of;
 
-// The list of the variables that have names.
-fn list_of_variables(alloc: Global, names: &[(Name, u64)]) -> Result<Term, Memory>
-    ensures { IfOk result (λ t. t ≡ list_of (map (λ p. variable p.1) names.now)) }
+// The variables that have names.
+fn variables_of(alloc: Global, named: &[(Name, u64)]) -> Result<Vec<Term>, Memory>
+    ensures { IfOk result (λ v. v.items ≡ map (λ p. variable p.1) named.now) }
 {
-    let mut list = Term::atom(alloc, "[]")?;
-    for i in 0..names.len() {
-        let (_, number) = &names[names.len() - 1 - i];
-        let variable = Term::var(alloc, *number)?;
-        list = Term::comp(alloc, ".", &[variable, list])?;
+    let mut variables = Vec::new(alloc);
+    for (_, number) in named {
+        variables.push(Term::var(alloc, *number)?)?;
     }
-    Ok(list)
+    Ok(variables)
 }
 
 // The term of which the answers of a query are instances.
@@ -29,8 +27,9 @@ pub(crate) fn answer_term(alloc: Global, names: bool, ask: &Ask) -> Result<Term,
     if !names {
         return Ok(template);
     }
-    let variables = list_of_variables(alloc, ask.names.as_slice())?;
-    Term::comp(alloc, "$answer", &[template, variables])
+    let variables = variables_of(alloc, ask.names.as_slice())?;
+    let list = list_of(alloc, &variables)?;
+    Term::comp(alloc, "$answer", &[template, list])
 }
 
 // The names alone.

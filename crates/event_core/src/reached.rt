@@ -1,11 +1,11 @@
 // The events of a query as far as a number of steps reaches.
-ghost use Rattle.std.specs.Prelude.{◌≡◌, ◌<◌, ◌≤◌, min, ℕ, List as list, ◌++◌, false, length, All, None, [], IfOk, MatchOption};
+ghost use Rattle.std.specs.Prelude.{◌≡◌, ◌<◌, ◌≤◌, min, ℕ, List as list, ◌++◌, false, length, All, None, [], IfOk, OnOk, MatchOption};
 ghost use Rattle.solve_model.specs.Trace.{world_of};
 ghost use Rattle.event_core.specs.declared.stop.Stop.{Stop as SpecStop};
 ghost use Rattle.event_core.specs.Laws.{StaysInside, replying};
 ghost use Rattle.event_core.specs.Names.{answer_term};
 ghost use Rattle.event_core.specs.Reaching.{IsBegun, IsWhole, ReadsOn, rest_behind};
-ghost use Rattle.event_core.specs.Readers.{ahead, resumes, tells};
+ghost use Rattle.event_core.specs.Readers.{ahead, listed, resumes, tells};
 ghost use Rattle.event_core.specs.Standing.{chunk_of, spec_of};
 
 use crate::event::Event;
@@ -41,6 +41,16 @@ fn first_chunk(settings: Settings, ask: &Ask) -> u32
     }
 }
 
+// Puts an event, where there is one, behind the others.
+fn add(events: &mut List<(u64, Event)>, event: Option<(u64, Event)>) -> Result<(), Memory>
+    ensures { OnOk result (events.new ≡ events.old ++ listed event) }
+{
+    if let Some(event) = event {
+        events.push(event)?;
+    }
+    Ok(())
+}
+
 // Goes on with the requests as long as the reader rests and the next one fits, and leaves the others.
 fn resume_on<'a>(
     alloc: Global,
@@ -57,9 +67,7 @@ fn resume_on<'a>(
         if !reader.resumes(request) {
             return Ok(left);
         }
-        if let Some(event) = reader.resume(alloc, request)? {
-            events.push(event)?;
-        }
+        add(events, reader.resume(alloc, request)?)?;
         left = others;
     }
     Ok(left)
@@ -81,9 +89,7 @@ fn read_stops(
         if reader.rest().is_some() {
             break;
         }
-        if let Some(event) = reader.read(alloc, step, stop)? {
-            events.push(event)?;
-        }
+        add(&mut events, reader.read(alloc, step, stop)?)?;
         left = resume_on(alloc, &mut reader, &mut events, left)?;
     }
     let rest = reader.rest();

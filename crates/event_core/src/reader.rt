@@ -97,7 +97,8 @@ fn moves(stand: Stand, step: u64, event: Event) -> Moved
 impl Reader {
     /// A reader before the first stop of a query, whose events hold `chunk` answers and these names.
     pub fn new(alloc: Global, chunk: u32, names: Option<List<Name>>) -> Reader
-        ensures { result ≡ record { chunk = chunk; names = names; stand = Reading [] } }
+        ensures stands { result ≡ record { chunk = chunk; names = names; stand = Reading [] } }
+        ensures given { HasGiven names chunk [] [] [] result }
     {
         Reader {
             chunk,
@@ -129,13 +130,7 @@ impl Reader {
     }
 
     // An answer joins the open chunk, which is closed where it is the last answer or the chunk is full.
-    fn answer(
-        &self,
-        alloc: Global,
-        step: u64,
-        held: Chunk,
-        more: bool,
-    ) -> Result<Moved, Memory>
+    fn answer(&self, alloc: Global, step: u64, held: Chunk, more: bool) -> Result<Moved, Memory>
         ensures { IfOk result (λ m. m ≡ answered (style_with self.now.names) self.now.chunk step held more) }
     {
         if !more {
@@ -173,13 +168,7 @@ impl Reader {
     }
 
     // What a stop does to an open chunk.
-    fn after_stop(
-        &self,
-        alloc: Global,
-        step: u64,
-        stop: Stop,
-        held: Chunk,
-    ) -> Result<Moved, Memory>
+    fn after_stop(&self, alloc: Global, step: u64, stop: Stop, held: Chunk) -> Result<Moved, Memory>
         ensures { IfOk result (λ m. m ≡ after_stop (style_with self.now.names) self.now.chunk step stop held) }
     {
         let is_open = !held.is_empty();
@@ -228,6 +217,7 @@ impl Reader {
         requires reads { rest_of self.old.stand ≡ None }
         ensures brings { IfOk result (λ e. (qs : list (ℕ × SpecStop)) (more : list SpecRequest) → ahead self.old ((step, stop) ∷ qs) more ≡ tells (listed e) (ahead self.new qs more)) }
         ensures given { IfOk result (λ e. (ns : option (list (list ℕ))) (c : ℕ) (ps : list (ℕ × SpecStop)) (rs : list SpecRequest) (es : list (ℕ × SpecEvent)) → HasGiven ns c ps rs es self.old → HasGiven ns c (ps ++ (step, stop) ∷ []) rs (es ++ listed e) self.new) }
+        ensures names { self.new.names ≡ self.old.names }
     {
         let stand = mem::replace(&mut self.stand, Stand::Done);
         let Stand::Reading(held) = stand else {
@@ -248,6 +238,7 @@ impl Reader {
         requires fits { is_fitting self.old.stand request.now ≡ true }
         ensures brings { IfOk result (λ e. (qs : list (ℕ × SpecStop)) (more : list SpecRequest) → ahead self.old qs (request.now ∷ more) ≡ tells (listed e) (ahead self.new qs more)) }
         ensures given { IfOk result (λ e. (ns : option (list (list ℕ))) (c : ℕ) (ps : list (ℕ × SpecStop)) (rs : list SpecRequest) (es : list (ℕ × SpecEvent)) → HasGiven ns c ps rs es self.old → HasGiven ns c ps (rs ++ request.now ∷ []) (es ++ listed e) self.new) }
+        ensures names { self.new.names ≡ self.old.names }
     {
         let stand = mem::replace(&mut self.stand, Stand::Done);
         self.chunk = request.chunk_after(self.chunk);

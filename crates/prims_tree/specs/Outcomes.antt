@@ -1,5 +1,5 @@
 -- What a primitive gives, as the definition has it.
-use Rattle.std.specs.Prelude.{◌≡◌, ℕ, true, List, length, ⊤}
+use Rattle.std.specs.Prelude.{◌≡◌, ℕ, true, List, ⊤}
 use Rattle.std.specs.List.{list_all}
 use Rattle.term_core.specs.Tree.{Tree}
 use Rattle.tree_results.specs.Placed.{has_places, results_for}

@@ -1,5 +1,5 @@
 -- The results that are left, as the definition has them.
-use Rattle.std.specs.Prelude.{ℕ, List, [], ◌∷◌, Option, Some, None, refl, map, reverse}
+use Rattle.std.specs.Prelude.{ℕ, List, ◌∷◌, Option, Some, None, refl, map, reverse}
 use Rattle.std.specs.Coded.{Coded, code_by, coded×, coded_ℕ, coded_list}
 use Rattle.term_core.specs.Tree.{Tree}
 use Rattle.term_core.specs.Flat.{tree_code}

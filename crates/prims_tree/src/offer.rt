@@ -1,6 +1,6 @@
 // The results of a primitive over terms.
 ghost use Rattle.std.specs.Prelude.{◌≡◌, [], ◌∷◌, map, None, IfOk, OnOk, OnErr, MatchOption};
-ghost use Rattle.tree_results.specs.Placed.{argument as argument_of, for_arguments, pair_for};
+ghost use Rattle.tree_results.specs.Placed.{argument as argument_of, for_arguments};
 ghost use Rattle.tree_results.specs.Outcomes.{result_of};
 ghost use Rattle.prims_tree.specs.Views.{offer_of, with_ahead};
 

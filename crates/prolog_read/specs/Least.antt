@@ -1,5 +1,5 @@
 -- Where a fault of syntax stands: at the first token that no continuation allows, or at the end where more must come.
-use Rattle.std.specs.Prelude.{◌≡◌, ℕ, ◌⊎◌, List, [], ◌∷◌, ◌++◌, length, Ok, ⊤, ⊥}
+use Rattle.std.specs.Prelude.{◌≡◌, ℕ, ◌⊎◌, List, [], ◌∷◌, ◌++◌, length, Ok, ⊤}
 use Rattle.term_core.specs.Tokens.{Token}
 use Rattle.term_core.specs.Tree.{Tree}
 use Rattle.op_table.specs.Table.{Table}

@@ -6,19 +6,17 @@ use Rattle.std.proofs.lemmas.Bool.Decides.{nat_tests}
 use Rattle.std.proofs.lemmas.List.{length-append}
 use Rattle.term_core.specs.declared.pi.Pi.{Pi}
 use Rattle.term_core.specs.Tree.{Tree, variable, integer, atom, compound, Trees, no_trees, tree, tree_list, trees_of, arity}
-use Rattle.term_core.specs.Flat.{trees_of-tree_list}
 use Rattle.term_core.specs.Parts.{arguments_of}
-use Rattle.term_core.specs.Variables.{renamed, map_variables, map_all_variables, numbered}
+use Rattle.term_core.specs.Variables.{renamed, map_all_variables, numbered}
 use Rattle.term_core.specs.Substitution.{substituted, all_substituted, value_of, apply}
 use Rattle.term_core.specs.Unifier.{mgu}
-use Rattle.term_core.proofs.Substituting.{substituted-substituted}
 use Rattle.builtin_table.specs.Errors.{one_argument, two_arguments, representation_error}
 use Rattle.builtin_table.specs.Primitives.{Offer, Outcome, Offers, Ball, Unknown}
 use Rattle.builtin_table.specs.Solutions.{behind_carets, behind_caret, may_be_list, findall_offers, bagof_offers, setof_offers, witness, witnessed, copies, after_copies}
 use Rattle.program.specs.Bodies.{is_body}
 use Rattle.program.specs.Clauses.{Clause, clauses_of}
-use Rattle.solve_model.specs.Goals.{Row, Succeeds, Fails, Cuts, Both, Either, IfElse, Test, Differ, Call, Catch, Throw, Output, Input, FindAll, BagOf, SetOf, Predicate, row_named, atom_rows, one_rows, two_rows, three_rows, row_of, row_of_atom, row_of_one, row_of_two, row_of_three, row_of_arguments, row_of_compound, is_call, arrow, disjunction, counterexample, true_goal, fail_goal, Ready, Runs, Throws, ready, ready_compound, with_arguments, not_callable, control_error, unknown_predicate, indicator as pi_of, indicator_of as goal_pi, settled, talks}
-use Rattle.solve_model.specs.Run.{World, Bindings, Item, Goal, Commit, ExitCatch, End, Failed, Cut, Thrown, Waits, Spent, Outside, Place, Used, Ran, Runner, Branch, ends, marked, after, at_failed, at_cut, at_condition, at_catch, cut_to, in_order, Mark, Told, Asked, undefined, one_reply, if_replied, reply_offer, prompted, without_answers, solutions, at_gathered, gathered, alone, collected, found_all, all_grouped, throws, if_ready, deeper, at_subst, body_branch, entered, offer_branch, offered, performed, called, locally, either_of, branched, differs, recovered_by, recovered, caught, thrown, goal_step, item_step, some_left, one_more, taken, run, query, start, unused}
+use Rattle.solve_model.specs.Goals.{Row, Succeeds, Fails, Cuts, Both, Either, IfElse, Test, Differ, Call, Catch, Throw, Output, Input, FindAll, BagOf, SetOf, Predicate, row_named, atom_rows, one_rows, two_rows, three_rows, row_of, row_of_atom, row_of_one, row_of_two, row_of_three, row_of_arguments, row_of_compound, is_call, arrow, disjunction, counterexample, true_goal, fail_goal, Ready, Runs, Throws, ready, ready_compound, with_arguments, not_callable, control_error, indicator as pi_of, indicator_of as goal_pi, settled, talks}
+use Rattle.solve_model.specs.Run.{World, Bindings, Item, Goal, Commit, ExitCatch, End, Failed, Cut, Thrown, Waits, Spent, Outside, Place, Used, Ran, Runner, Branch, ends, marked, after, at_failed, at_cut, at_condition, at_catch, cut_to, in_order, Mark, Asked, undefined, one_reply, if_replied, reply_offer, prompted, without_answers, solutions, at_gathered, gathered, alone, collected, found_all, all_grouped, if_ready, body_branch, entered, offer_branch, offered, performed, called, locally, branched, differs, recovered_by, caught, goal_step, item_step, some_left, one_more, taken, run, query, start, unused}
 use Rattle.solve_model.proofs.Settling.{settled_silent, settled_inside}
 use Rattle.sandbox_walk.specs.declared.found.Kind.{Kind}
 use Rattle.sandbox_walk.specs.declared.found.Kind.TheVariants.{Plain, Part, Adds, Behind}

@@ -1,5 +1,5 @@
 -- Clauses that hand goals on are safe wherever their heads are.
-use Rattle.std.proofs.Common.{◌≡◌, ℕ, zero, suc, Bool, true, false, ◌&&◌, ◌||◌, ◌==◌, List, [], ◌∷◌, if◌then◌else◌, IsTrue, Option, Some, None, refl, ap, sym, subst, ◌∙◌, ◌⊎◌, inl, inr}
+use Rattle.std.proofs.Common.{◌≡◌, ℕ, zero, suc, Bool, true, false, ◌&&◌, ◌||◌, ◌==◌, List, [], ◌∷◌, if◌then◌else◌, IsTrue, Some, refl, sym, subst, ◌⊎◌, inl, inr}
 use Rattle.std.proofs.lemmas.Bool.{and_parts, eqb-true}
 use Rattle.term_core.specs.declared.pi.Pi.{Pi}
 use Rattle.term_core.specs.Tree.{Tree, variable, integer, atom, compound, Trees, no_trees, tree, arity, tree_list}
@@ -11,7 +11,7 @@ use Rattle.program.specs.Clauses.{Clause, indicator_of}
 use Rattle.sandbox_walk.specs.declared.found.Kind.{Kind}
 use Rattle.sandbox_walk.specs.declared.found.Kind.TheVariants.{Plain, Part, Adds, Behind}
 use Rattle.sandbox_walk.specs.Shown.{indicator}
-use Rattle.sandbox_walk.specs.Keeping.{run_kinds, is_known, is_goal, has_goal, hands_argument, hands_arguments, hands_on, all_hand_on}
+use Rattle.sandbox_walk.specs.Keeping.{run_kinds, is_known, is_goal, has_goal, hands_arguments, hands_on, all_hand_on}
 use Rattle.sandbox_walk.proofs.Walking.{or_either}
 use Rattle.sandbox_walk.proofs.Instances.{May, SafeFresh, Safe, SafeIn, arity_instance}
 use Rattle.sandbox_walk.proofs.Guarded.{PassesOn}

@@ -1,15 +1,15 @@
 -- What the clauses of a program that keeps to the sandbox are.
-use Rattle.std.proofs.Common.{◌≡◌, ℕ, Bool, true, false, not, ◌&&◌, ◌||◌, ◌==◌, cond, List, [], ◌∷◌, map, filter, if◌then◌else◌, bytes_eq, IsTrue, Option, Some, None, is_some, is_none, refl, ap, sym, subst, ◌∙◌, ◌⊎◌, inl, inr}
+use Rattle.std.proofs.Common.{◌≡◌, Bool, true, false, not, ◌||◌, cond, List, [], ◌∷◌, filter, if◌then◌else◌, IsTrue, Option, Some, None, refl, ap, sym, subst, ◌∙◌, ◌⊎◌, inl, inr}
 use Rattle.std.specs.List.{list_any, list_all}
 use Rattle.std.proofs.lemmas.Bool.{and_parts}
 use Rattle.term_core.specs.declared.pi.Pi.{Pi}
 use Rattle.term_core.specs.Parts.{arguments_of}
 use Rattle.builtin_table.specs.declared.row.Row.{Row}
-use Rattle.builtin_table.specs.Table.{Rows, row_of, indicators, is_library, reserved_of}
-use Rattle.program.specs.Clauses.{Clause, indicator_of, is_for, same_indicator, clauses_of}
+use Rattle.builtin_table.specs.Table.{Rows, row_of, indicators, is_library}
+use Rattle.program.specs.Clauses.{Clause, is_for, same_indicator, clauses_of}
 use Rattle.program.specs.Source.{begins_with_dollar}
 use Rattle.program.proofs.SourceLemmas.{is_own as indicator_for}
-use Rattle.sandbox_walk.specs.Keeping.{helpers, known, is_known, run_kinds, has_goal, hands_on, is_library_row, runs_goals, is_reserved, keeps_of, clause_keeps}
+use Rattle.sandbox_walk.specs.Keeping.{is_known, run_kinds, has_goal, hands_on, runs_goals, is_reserved, keeps_of, clause_keeps}
 use Rattle.sandbox_walk.proofs.Walking.{same}
 use Rattle.sandbox_walk.proofs.Instances.{May}
 use Rattle.sandbox_walk.proofs.Guarded.{PassesOn, AllPassOn}

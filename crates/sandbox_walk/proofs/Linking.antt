@@ -1,10 +1,8 @@
 -- From what is shown to safe terms: a passed goal is safe, and so is what the clauses that it reaches make of it.
-use Rattle.std.proofs.Common.{◌≡◌, ℕ, zero, suc, ◌+◌, Bool, true, false, ◌&&◌, ◌||◌, List, [], ◌∷◌, ◌++◌, length, if◌then◌else◌, IsTrue, Option, Some, None, refl, ap, sym, subst, ◌∙◌, ◌⊎◌, inl, inr, arith}
-use Rattle.std.specs.List.{list_any, list_all, flat_map}
-use Rattle.std.proofs.lemmas.Bool.{and_parts}
+use Rattle.std.proofs.Common.{◌≡◌, ℕ, zero, suc, ◌+◌, Bool, true, false, ◌||◌, List, [], ◌∷◌, ◌++◌, length, if◌then◌else◌, IsTrue, Option, Some, None, refl, ap, sym, subst, ◌∙◌, ◌⊎◌, inl, inr}
+use Rattle.std.specs.List.{list_all, flat_map}
 use Rattle.term_core.specs.declared.pi.Pi.{Pi}
 use Rattle.term_core.specs.Tree.{Tree, variable, integer, atom, compound, Trees, no_trees, tree, arity}
-use Rattle.term_core.specs.Substitution.{substituted}
 use Rattle.builtin_table.specs.Outside.{is_outside_in}
 use Rattle.builtin_table.specs.Table.{Rows}
 use Rattle.program.specs.Clauses.{Clause, same_indicator, clauses_of}
@@ -15,13 +13,13 @@ use Rattle.sandbox_walk.specs.declared.found.Stands.{Stands}
 use Rattle.sandbox_walk.specs.declared.found.Stands.TheVariants.{Opens, Unbound, Shut}
 use Rattle.sandbox_walk.specs.declared.found.Found.{Found}
 use Rattle.sandbox_walk.specs.declared.found.Found.TheVariants.{Literal, Place}
-use Rattle.sandbox_walk.specs.Shown.{Kinds, kinds_in, indicator, shown, shown_in, fresh, fresh_one, placed, stands, too_many, is_hat}
+use Rattle.sandbox_walk.specs.Shown.{Kinds, kinds_in, indicator, shown, shown_in, fresh, placed, stands, too_many, is_hat}
 use Rattle.sandbox_walk.specs.Verdict.{Reach, by_goal, by_clause, enters, in_goal, in_clause, in_predicate, is_literal, has_literal}
 use Rattle.sandbox_walk.specs.Passes.{opens, Passes}
 use Rattle.sandbox_walk.proofs.Joining.{all_parts, any_left, any_right}
 use Rattle.sandbox_walk.proofs.Walking.{itself}
 use Rattle.sandbox_walk.proofs.Instances.{May, when, SafeFresh, Safe, SafeIn, safe_instance}
-use Rattle.sandbox_walk.proofs.Guarded.{PassesOn, AllPassOn, KnowsRows, AreAlike, Same, query_same}
+use Rattle.sandbox_walk.proofs.Guarded.{AllPassOn, KnowsRows, Same, query_same}
 
 -- a kind that is a goal
 abbrev pub IsGoal : Kind → Type 0

@@ -1,11 +1,10 @@
 -- A program keeps to the sandbox where its library and its client's clauses do.
-use Rattle.std.proofs.Common.{◌≡◌, ℕ, ◌+◌, Bool, true, false, not, ◌&&◌, ◌||◌, List, [], ◌∷◌, ◌++◌, filter, length, if◌then◌else◌, IsTrue, codes, Option, Some, None, refl, ap, sym, subst, ◌∙◌}
+use Rattle.std.proofs.Common.{◌≡◌, Bool, true, false, not, ◌&&◌, List, [], ◌∷◌, ◌++◌, filter, if◌then◌else◌, IsTrue, codes, Option, Some, None, refl, ap, sym, ◌∙◌}
 use Rattle.std.specs.List.{list_all, flat_map}
 use Rattle.std.proofs.lemmas.Bool.{and_parts}
-use Rattle.term_core.specs.declared.app.App.{App}
 use Rattle.term_core.specs.declared.pi.Pi.{Pi}
 use Rattle.builtin_table.specs.Table.{Rows, rows_of_app, indicators}
-use Rattle.program.specs.Clauses.{Clause, indicator_of, is_for, clauses_of}
+use Rattle.program.specs.Clauses.{Clause, is_for, clauses_of}
 use Rattle.program.specs.Laws.{or_else}
 use Rattle.program.specs.Source.{begins_with_dollar, defines, program_of}
 use Rattle.program.proofs.ProgramLemmas.{replaced}

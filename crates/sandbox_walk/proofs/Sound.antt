@@ -1,5 +1,5 @@
 -- Soundness over the table of each application, for programs that keep to the sandbox.
-use Rattle.std.proofs.Common.{◌≡◌, ℕ, zero, suc, Bool, true, false, not, ◌&&◌, ◌||◌, ◌==◌, nat_lt, List, [], ◌∷◌, length, map, codes, IsTrue, Option, Some, None, is_none, is_some, if◌then◌else◌, refl, ap, sym, subst, ◌∙◌, ◌⊎◌, inl, inr, arith}
+use Rattle.std.proofs.Common.{◌≡◌, ℕ, zero, suc, Bool, true, false, not, ◌&&◌, ◌||◌, ◌==◌, nat_lt, List, [], ◌∷◌, map, codes, IsTrue, Option, Some, None, is_none, is_some, if◌then◌else◌, refl, ap, sym, subst, ◌∙◌, ◌⊎◌, inl, inr, arith}
 use Rattle.std.specs.List.{list_any, list_all}
 use Rattle.std.proofs.lemmas.Bool.{and_parts, ltb-true}
 use Rattle.term_core.specs.declared.app.App.{App}
@@ -16,14 +16,14 @@ use Rattle.program.specs.Bodies.{is_connective}
 use Rattle.program.specs.Clauses.{Clause, same_indicator, clauses_of}
 use Rattle.program.specs.Loaded.{Loaded}
 use Rattle.program.specs.Source.{begins_with_dollar}
-use Rattle.solve_model.specs.Run.{World, End, Outside, query}
+use Rattle.solve_model.specs.Run.{World, query}
 use Rattle.sandbox_walk.specs.declared.found.Kind.{Kind}
 use Rattle.sandbox_walk.specs.declared.found.Kind.TheVariants.{Plain, Part, Adds, Behind}
-use Rattle.sandbox_walk.specs.Shown.{Kinds, kinds_in, declared_kind, indicator}
+use Rattle.sandbox_walk.specs.Shown.{kinds_in, declared_kind, indicator}
 use Rattle.sandbox_walk.specs.Verdict.{is_own, enters, in_predicate, Verdict, VerdictOver}
 use Rattle.sandbox_walk.specs.Keeping.{helpers, known, is_known, run_kinds, runs_goals, is_library_row, is_reserved, clause_keeps, is_closed, is_there, library_rows, keeps_sandbox, ClausesKeep, KeepsSandbox}
-use Rattle.sandbox_walk.specs.Passes.{Passes, PassesOver, opens}
-use Rattle.sandbox_walk.specs.Sound.{may_be_row, RunsOver, DifferElsewhere, StaysInside, PassedGoalsStayInside, SafeGoalsStayInside}
+use Rattle.sandbox_walk.specs.Passes.{Passes, opens}
+use Rattle.sandbox_walk.specs.Sound.{may_be_row, DifferElsewhere, StaysInside, PassedGoalsStayInside, SafeGoalsStayInside}
 use Rattle.sandbox_walk.proofs.Walking.{same}
 use Rattle.sandbox_walk.proofs.Instances.{May}
 use Rattle.sandbox_walk.proofs.Guarded.{KnowsRows, AllPassOn, IsInside, Same}

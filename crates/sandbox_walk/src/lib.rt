@@ -4,6 +4,7 @@
 //! a predicate that is outside, and where what it would run can't be seen before it runs.
 #![tactic(auto)]
 
+mod bodies;
 mod found;
 mod kinds;
 mod laws;

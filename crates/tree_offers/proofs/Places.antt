@@ -1,11 +1,10 @@
 -- Results whose places are all arguments'.
-use Rattle.std.proofs.Common.{◌≡◌, ℕ, ◌<◌, Bool, true, false, ◌&&◌, List, [], ◌∷◌, length, map, nat_lt, refl, ap, sym, ◌∙◌, if◌then◌else◌}
+use Rattle.std.proofs.Common.{◌≡◌, ℕ, Bool, true, List, [], ◌∷◌, length, map, nat_lt, ap, sym, ◌∙◌, if◌then◌else◌}
 use Rattle.std.specs.List.{All, list_all}
 use Rattle.std.proofs.lemmas.Bool.{and_parts, ltb-true}
 use Rattle.std.proofs.lemmas.List.Elements.{All-cons, All-nil}
 use Rattle.term_core.specs.Tree.{Tree}
-use Rattle.builtin_table.specs.Primitives.{Outcome, Offers, Unknown}
-use Rattle.tree_offers.specs.Outcomes.{AreOver}
+use Rattle.builtin_table.specs.Primitives.{Offers, Unknown}
 use Rattle.tree_offers.specs.Results.{Result, for_arguments, has_places, results_for, HasPlace, HasPlaces}
 
 pairs_within : (n : ℕ) (ps : List (ℕ × Tree)) → list_all (λ p. nat_lt p.0 n) ps ≡ true → All (HasPlace n) ps

@@ -1,10 +1,10 @@
 -- The parts of a text, by the places of the arguments, are those of the definition.
-use Rattle.std.proofs.Common.{◌≡◌, ℕ, suc, ◌+◌, ◌-◌, Bool, true, false, if◌then◌else◌, List, [], ◌∷◌, ◌++◌, length, map, refl, ap, sym, ◌∙◌, arith}
+use Rattle.std.proofs.Common.{◌≡◌, ℕ, suc, ◌+◌, ◌-◌, Bool, true, if◌then◌else◌, List, [], ◌∷◌, ◌++◌, length, map, refl, ap, ◌∙◌, arith}
 use Rattle.std.specs.List.{flat_map, list_all, range_with_len}
 use Rattle.std.proofs.lemmas.List.{map-append}
 use Rattle.std.proofs.lemmas.List.Folds.{list_all-append}
 use Rattle.term_core.specs.Tree.{Tree}
-use Rattle.builtin_table.specs.Outcomes.{Offer, Outcome, Offers, Unknown}
+use Rattle.builtin_table.specs.Outcomes.{Offer, Offers, Unknown}
 use Rattle.builtin_table.specs.Texts.{PartTerms, split, part_at, parts_at, parts_from, splits_from}
 use Rattle.tree_results.specs.Placed.{Result, for_arguments, has_places, results_for}
 use Rattle.tree_texts.specs.Parts.{placed_split, placed_part, placed_at, placed_from}

@@ -4,7 +4,7 @@ ghost use Rattle.std.specs.List.{find};
 ghost use Rattle.term_core.specs.Tree.{Tree};
 ghost use Rattle.std.specs.Str.{chars};
 ghost use Rattle.builtin_table.specs.Primitives.{Offers, is_compound as is_compound_tree};
-ghost use Rattle.builtin_table.specs.Texts.{PartTerms, splits_from, parts_from, sub_ball as sub_ball_of, sub_atom as sub_atom_of, concat_ball as concat_ball_of, concatenation as concatenation_of, concat_found as concat_found_of, atom_concat as atom_concat_of};
+ghost use Rattle.builtin_table.specs.Texts.{splits_from, parts_from, sub_ball as sub_ball_of, sub_atom as sub_atom_of, concat_ball as concat_ball_of, concatenation as concatenation_of, concat_found as concat_found_of, atom_concat as atom_concat_of};
 ghost use Rattle.tree_results.specs.Outcomes.{outcome_of};
 ghost use Rattle.tree_texts.specs.Parts.{text_outcome_of};
 
