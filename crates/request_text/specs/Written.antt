@@ -15,8 +15,6 @@ use Rattle.event_core.specs.declared.request.Request.{Request}
 use Rattle.event_core.specs.declared.limits.TheConstants.{MAX_CHUNK}
 use Rattle.request_text.specs.declared.sent.Sent.{Sent}
 use Rattle.request_text.specs.declared.sent.Sent.TheVariants.{Request as Asks, Abort, Destroy}
-use Rattle.prolog_read.specs.Variables.{Names}
-use Rattle.request_text.specs.Requests.{named}
 use Rattle.request_text.specs.Spelled.{sent_in}
 
 -- ---- the text
@@ -92,13 +90,9 @@ HasChunk (Asks (request.Ask a)) = IsChunk a.chunk
 HasChunk (Asks (request.Next (Some n))) = (1 ≤ n) × (n ≤ MAX_CHUNK)
 HasChunk s = ⊤
 
--- a request is read as this one, whatever names an ask has in the text
-abbrev pub IsReadAs : List ℕ → Sent → Type 0
-IsReadAs bs s = (ns : Names) × (sent_in bs ≡ Ok (named ns s))
-
 -- What is written of what is sent is read as that again, and its text is no longer than what a reader takes: the depth of the written term is at most 1,000.
--- The variables of the text have names of the writer's, not the client's.
+-- No names are told, since those of the text's variables are the writer's.
 abbrev pub RequestsAreReadAgain : Type 0
 RequestsAreReadAgain =
     (s : Sent) → HasChunk s → IsSound (sent_term s) → depth (sent_term s) ≤ 1000 →
-    IsReadAs (sent_text s) (sent_again s)
+    sent_in (sent_text s) ≡ Ok (sent_again s)

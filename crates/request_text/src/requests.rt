@@ -122,7 +122,7 @@ fn named(names: List<(Name, u64)>, sent: Sent) -> Sent
 /// Reads a request: `ask(Goal)` or `ask(Goal,Options)` with `template(Term)` and `chunk(N)` among the options,
 /// `next` or `next(N)`, `stop`, `respond(Term)`, `abort` or `destroy`, with an end or none. An N is from 1 to 1,000, and no
 /// option stands twice. Where an ask names no template its goal is the template, and where it names no chunk its chunk
-/// is 0.
+/// is 0. The names of an ask are those of the text's variables that don't begin with `_`, each once and in byte order.
 ///
 /// `Read` is the fault of a text that isn't one term, and `NotRequest` comes where the term is none of these.
 pub fn read_request(alloc: Global, text: &str) -> Result<Sent, RequestFault>

@@ -154,7 +154,8 @@ fn first_ask(
 
 /// Reads what a pengine is made with: its program, of the source text over the library, and its first query. A variable
 /// of the template with the name of one of the query is that variable, `_` aside; every other is a variable of its own.
-/// Without a template's text the query is its template, and without a query the template isn't read.
+/// Without a template's text the query is its template, and without a query the template isn't read. The names of the
+/// query are those of the variables of both texts that don't begin with `_`, each once and in byte order.
 ///
 /// The source text is refused first, where it can't be read (`Source`) or has a clause that is refused (`Clause`); then
 /// the query, where its text isn't one term (`Ask`), and then the template likewise (`Template`). Queries and templates
