@@ -1,6 +1,9 @@
+pub mod Fates
+pub mod Growing
 pub mod Keeping
 pub mod Lively
 pub mod Numbers
+pub mod Recording
 pub mod Resolution
 pub mod Room
 mod Rows

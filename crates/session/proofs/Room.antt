@@ -169,17 +169,17 @@ take_room (state.More q) n m l a k = absurd l
 take_room (state.Prompting q) n m l a k = absurd l
 take_room Ended n m l a k = absurd l
 
-pull_room : (s : State) (t : Option ℕ) (n m : ℕ) → RoomAt s t n m → RoomAt s t n (suc m)
-pull_room Idle t n m h = h
-pull_room (Running q) (Some room) n m h = omega (arith, h)
-pull_room (Running q) None n m h = tt
-pull_room (state.More q) t n m h = h
-pull_room (state.Prompting q) t n m h = h
-pull_room Ended t n m h = h
+pull_room : (s : State) (t : Option ℕ) (n m j : ℕ) → RoomAt s t n m → RoomAt s t n (m + j)
+pull_room Idle t n m j h = h
+pull_room (Running q) (Some room) n m j h = omega (arith, h)
+pull_room (Running q) None n m j h = tt
+pull_room (state.More q) t n m j h = h
+pull_room (state.Prompting q) t n m j h = h
+pull_room Ended t n m j h = h
 
 entry_roomy : (spec : Spec) (budget : ℕ) (e : Entry) (p : Pengine) → IsAllowed spec budget e p → Roomy p → Roomy (entered spec e p)
 entry_roomy spec budget (Sent r) p l h = record { pulled = h.pulled; queue = h.queue; box = (let k : length (p.mailbox ++ r ∷ []) ≡ length p.mailbox + 1 = length-append p.mailbox (r ∷ []) in omega (arith, k, l.1)); turn = h.turn }
-entry_roomy spec budget (Pulled m) p l h = record { pulled = omega (arith, l); queue = omega (arith, h.queue); box = h.box; turn = pull_room p.state p.turn _ _ h.turn }
+entry_roomy spec budget (Pulled m) p l h = record { pulled = l.1; queue = omega (arith, h.queue); box = h.box; turn = pull_room p.state p.turn (length p.emitted) p.pulled m h.turn }
 entry_roomy spec budget Abort p l h = abort_roomy spec p.state p h
 entry_roomy spec budget Destroy p l h = destroy_roomy p.state p
 entry_roomy spec budget Taken p l h = record { pulled = h.pulled; queue = h.queue; box = h.box; turn = take_room p.state (length p.emitted) p.pulled l.0 h.pulled l.2 }

@@ -398,7 +398,7 @@ entry_enters spec budget (Pulled m) p rs c x l h = record {
   agrees = record { before = h.before; later = h.later; split = h.split; stands = same h.stands };
 }
   where
-    same : (v : Stands spec h.later (c + length h.before) p (reads spec h.before x)) → Stands spec h.later (c + length h.before) (record p { pulled = suc p.pulled }) (reads spec h.before x)
+    same : (v : Stands spec h.later (c + length h.before) p (reads spec h.before x)) → Stands spec h.later (c + length h.before) (record p { pulled = p.pulled + m }) (reads spec h.before x)
     same v = record { here = v.here; below = v.below; sound = v.sound; turn = v.turn; dropped = v.dropped; split = v.split; only_ended = v.only_ended; count = v.count }
 entry_enters spec budget Abort p rs c x l h = record {
   still = [];

@@ -5,7 +5,8 @@ ghost use Rattle.event_core.specs.declared.rest.Rest.TheVariants as ending;
 ghost use Rattle.circular_buffer.specs.Buffer.{buffer};
 ghost use Rattle.session.specs.declared.state.State.TheVariants as at;
 ghost use Rattle.session.specs.declared.answers.Given.TheVariants as given;
-ghost use Rattle.session.specs.TurnsKept.{Keeps};
+ghost use Rattle.event_core.specs.Full as asked;
+ghost use Rattle.session.specs.TurnsKept.{Starts, Keeps};
 ghost use Rattle.session.specs.Views as view;
 ghost use Rattle.session.specs.After.{begins, fits, first_consumed, aborted_at, struck, settled, made, Sent, Pulled, Abort, Given as GivenBack};
 ghost use Rattle.session.specs.Answers.{is_ended, takes, is_turn, last_of, gives};
@@ -395,6 +396,7 @@ impl Automaton {
     fn hand_out(&mut self, query: Query) -> Turn
         requires room { length self.old.queue.items < 64 }
         requires program { query.program.value ≡ self.old.program.value }
+        requires starts { Starts (turn_at (view_of self.old) (query_of query)) }
         ensures turn { result ≡ turn_at (view_of self.old) (query_of query) }
         ensures state { self.new ≡ record self.old { state = at.Out (64 - length self.old.queue.items) (length query.requests) } }
     {
@@ -415,7 +417,8 @@ impl Automaton {
 
     // Gives a turn, where the query runs, none of its turns is out and the queue isn't full.
     pub(crate) fn take(&mut self) -> Took
-        requires { IsSound self.old }
+        requires sound { IsSound self.old }
+        requires starts { (q : asked.Query) → look_of self.old.state ≡ view.Running q → Starts (turn_at (view_of self.old) q) }
         ensures sound { IsSound self.new }
         ensures answer { result ≡ takes (view_of self.old) }
         ensures taken { IsTrue (is_turn result) → view_of self.new ≡ taken (view_of self.old) }
