@@ -11,5 +11,6 @@ pub mod Running
 pub mod Sandboxed
 pub mod Schedule
 pub mod Seen
+pub mod Showing
 pub mod Starting
 pub mod Turning

@@ -4,7 +4,10 @@ use Rattle.std.proofs.lemmas.Bool.{ltb-true, eqb-true}
 use Rattle.program.specs.Loaded.{Loaded}
 use Rattle.sandbox_walk.specs.Keeping.{KeepsSandbox}
 use Rattle.event_core.specs.declared.event.Event.{Event}
+use Rattle.event_core.specs.declared.request.Ask.{Ask}
 use Rattle.event_core.specs.declared.request.Request.{Request}
+use Rattle.event_core.specs.declared.request.Request.TheVariants as request
+use Rattle.event_core.specs.declared.spec.Spec as wanted
 use Rattle.event_core.specs.declared.settings.Settings.{Settings}
 use Rattle.event_core.specs.Standing.{spec_of}
 use Rattle.event_core.specs.Full.{Spec, Query, part_of}
@@ -12,7 +15,8 @@ use Rattle.session.specs.declared.answers.Given.{Given as Outcome}
 use Rattle.session.specs.declared.answers.Given.TheVariants as given
 use Rattle.session.specs.After as state
 use Rattle.session.specs.After.{State, Pengine, Entry, Sent, Pulled, Abort, Taken, Given, after, after_entry, made, waiting, most_waiting, most_requests}
-use Rattle.session.specs.Answers.{is_turn, takes, takes_at, is_present, gives}
+use Rattle.session.specs.Answers.{is_turn, takes, takes_at, is_present, gives, is_kept}
+use Rattle.session.specs.Begun.{first_of, IsBegun}
 use Rattle.session.specs.Legal.{IsRunning, IsLive, TurnsAt, IsAllowed, Holds}
 use Rattle.session.specs.Turns.{Turns}
 use Rattle.session.specs.Views.{Look, Idle, Running, Out, More, Prompting, Ended, View, Gone, TurnView, IsLook, IsKept, IsSeen, IsPresent, IsTurnOf, spec_seen, Enters, taken, turn_at}
@@ -20,6 +24,8 @@ use Rattle.session.specs.TurnsKept.{IsAhead, Starts, Keeps, part_seen}
 use Rattle.session.specs.Recorded.{ArePossible, stood, IsRecord, IsRecorded, Lengthens, IsOwn, IsOut, present, lost, IsTaken, Takes, given_back, GivesBack}
 use Rattle.session.specs.declared.took.Took.{Took}
 use Rattle.session.specs.declared.took.Took.TheVariants as took
+use Rattle.session.specs.declared.automaton.Automaton.{Automaton}
+use Rattle.session.specs.Kept.{view_of}
 use Rattle.session.proofs.Fates
 use Rattle.session.proofs.Fates.{taken_out}
 use Rattle.session.proofs.Growing.{after_append, after_one}
@@ -81,16 +87,16 @@ goes_on {es} {v} {w} l r = record {
 live_at : (l : Look) (s : State) (t : Option ℕ) → l ≢ Ended → IsLook l s t → IsLive s
 live_at Idle s t n h = subst IsLive (sym h.0) tt
 live_at (Running q) s t n h = subst IsLive (sym h.0) tt
-live_at (Out room further) s t n h = subst IsLive (sym (h.0).1.0) tt
+live_at (Out room further) s t n h = subst IsLive (sym h.0.1) tt
 live_at (More q) s t n h = subst IsLive (sym h.0) tt
 live_at (Prompting q) s t n h = subst IsLive (sym h.0) tt
 live_at Ended s t n h = absurd (n refl)
 
 pub sends : (v w : View) (r : Request) → v.look ≢ Ended → length v.mailbox < most_requests → Enters (Sent r) v w → Lengthens (Sent r ∷ []) v w
-sends v w r n few d = lengthened v w (Sent r) d (λ p h. (0, live_at v.look p.state p.turn n h.look, subst (λ (ms : List Request). length ms < most_requests) h.kept.mailbox few))
+sends v w r n few d = lengthened v w (Sent r) d (λ p h. (0, (live_at v.look p.state p.turn n h.look, subst (λ (ms : List Request). length ms < most_requests) h.kept.mailbox few)))
 
 pub pulls : (v w : View) (n : ℕ) → 0 < n → n ≤ length v.queue → Enters (Pulled n) v w → Lengthens (Pulled n ∷ []) v w
-pulls v w n some few d = lengthened v w (Pulled n) d (λ p h. (0, some, wait p h))
+pulls v w n some few d = lengthened v w (Pulled n) d (λ p h. (0, (some, wait p h)))
   where
     wait : (p : Pengine) → IsSeen v p → p.pulled + n ≤ length p.emitted
     wait p h =
@@ -151,7 +157,7 @@ take_lengthens v t e =
     let r : Ready v t = ready_of v t e in
     lengthened v (taken v) Taken (taken_enters v (takes_turn v t e)) (λ p h.
     let s : (p.state ≡ state.Running r.query) × (p.turn ≡ None) = running_state v p r.query r.runs h in
-    (0, subst IsRunning (sym s.0) tt, s.1, subst (λ (n : ℕ). n < most_waiting) (sym (waits_as v p h.kept)) r.few))
+    (0, (subst IsRunning (sym s.0) tt, s.1, subst (λ (n : ℕ). n < most_waiting) (sym (waits_as v p h.kept)) r.few)))
 
 -- after its taking the turn is out
 taken_out_at : (v : View) (t : TurnView) → takes v ≡ took.Turn t → (p : Pengine) → IsSeen v p → IsOut (after_entry (spec_seen v) Taken p) t
@@ -209,7 +215,7 @@ not_older n k l e = omega (arith, l, e)
 lost_differs : (v : View) (es : List Entry) (k : ℕ) → IsRecord es v → Holds k (stood v es).lost → (room further : ℕ) → v.look ≡ Out room further → k ≡ v.number → ⊥
 lost_differs v es k r h room further e n =
     let l : IsLook (Out room further) (stood v es).state (stood v es).turn = subst (λ (x : Look). IsLook x (stood v es).state (stood v es).turn) e r.seen.look in
-    not_older (stood v es).number k (lost_turns_are_older (spec_seen v) es k h (subst IsRunning (sym (l.0).1.0) tt)) (n ∙ r.seen.kept.number)
+    not_older (stood v es).number k (lost_turns_are_older (spec_seen v) es k h (subst IsRunning (sym l.0.1) tt)) (n ∙ r.seen.kept.number)
 
 pub turn_of : (v : View) (t : TurnView) → IsTaken v t → (g : Gone) × (t.gone ≡ Some g) → IsTurnOf v t
 turn_of v t k gone = record { gone = gone; present = λ room further e n. at room further e n k.out }
@@ -226,7 +232,7 @@ turn_of v t k gone = record { gone = gone; present = λ room further e n. at roo
           steps = own.steps ∙ sym k.recorded.seen.kept.steps;
           events = own.events ∙ sym k.recorded.seen.kept.events;
           has_room = own.has_room ∙ some_same r room (sym own.is_out ∙ l.1);
-          requests = ap (λ (q : Query). length q.requests) (query_same t.query l.0.0 (sym own.query ∙ l.0.1.0)) ∙ l.0.1.1;
+          requests = ap (λ (q : Query). length q.requests) (query_same t.query l.0.0 (sym own.query ∙ l.0.1)) ∙ l.0.2;
         }
     at room further e n (lost h) = absurd (lost_differs v k.entries t.number k.recorded h room further e n)
 
@@ -267,7 +273,7 @@ kept_back v w t g k e d = record { program = d.program; settings = d.settings; r
     at : (before : List Entry) → IsRecord before v → IsOut (stood v before) t → IsRecord (before ++ given_back t g true ∷ []) w
     at before r (present room own) =
         one_more v w (given_back t g true) before d.program d.settings r
-        (d.turned.0, own.number, turns_at v t g d.turned.0 room (stood v before) k.program k.settings own d.turned.1)
+        (d.turned.0, (own.number, turns_at v t g d.turned.0 room (stood v before) k.program k.settings own d.turned.1))
         (d.seen (stood v before) own.query r.seen)
     at before r (lost h) = absurd (lost_differs v before t.number r h keeping.room keeping.further keeping.look (sym keeping.number))
 
@@ -301,3 +307,49 @@ given_goes_on {v} {w} {t} {g} {kept} b k r = record {
   entries = k.entries ++ given_back t g kept ∷ [];
   recorded = b.recorded k.entries k.recorded k.out;
 }
+
+-- A pengine that was just made
+
+first_possible : (spec : Spec) (o : Option Ask) → ArePossible spec (first_of o) made
+first_possible spec None = possible_none spec made
+first_possible spec (Some a) = possible_one spec (Sent (request.Ask a)) made (0, (tt, omega arith))
+
+pub begun_record : (s : wanted.Spec) (v : View) → IsBegun s v → IsRecord (first_of s.ask) v
+begun_record s v b =
+    let same : spec_of s.program.value s.settings ≡ spec_seen v = sym (same_spec v.program s.program.value v.settings s.settings b.program b.settings) in
+    record {
+      possible = first_possible (spec_seen v) s.ask;
+      seen = subst (λ (z : Spec). IsSeen v (after z (first_of s.ask) made)) same b.seen;
+    }
+
+pub begun_recorded : (s : wanted.Spec) (v : View) → KeepsSandbox s.program.value → IsBegun s v → IsRecorded v
+begun_recorded s v k b = record {
+  keeps = subst (λ (z : Loaded). KeepsSandbox z) (sym b.program) k;
+  entries = first_of s.ask;
+  recorded = begun_record s v b;
+}
+
+-- A turn was given back.
+pub give_back : (v w : View) (t : TurnView) (g : Gone) (o : Outcome) → IsTaken v t → o ≡ gives v t.number → (o ≡ given.Kept → Keeps v t g w) → (o ≡ given.Dropped → Enters (given_back t g false) v w) → GivesBack v t g (is_kept o) w
+give_back v w t g given.Kept k e f h = kept_back v w t g k (sym e) (f refl)
+give_back v w t g given.Dropped k e f h = dropped_back v w t g (sym e) (h refl)
+
+-- A take in code
+
+turn_answer : (o : Took) → IsTrue (is_turn o) → (t : TurnView) × (o ≡ took.Turn t)
+turn_answer (took.Turn t) h = (t, refl)
+turn_answer took.Out h = cc
+turn_answer took.Idle h = cc
+turn_answer took.QueueFull h = cc
+
+pub take_back : (a b : Automaton) (o : Took) → o ≡ takes (view_of a) → (IsTrue (is_turn o) → view_of b ≡ taken (view_of a)) → IsRecorded (view_of a) → (t : TurnView) → o ≡ took.Turn t → (view_of b ≡ taken (view_of a)) × Takes (view_of a) t (view_of b)
+take_back a b o e f r t h =
+    let w : view_of b ≡ taken (view_of a) = f (ap is_turn h) in
+    (w, subst (λ (x : View). Takes (view_of a) t x) (sym w) (takes_is (view_of a) t r (sym e ∙ h)))
+
+pub take_goes_on : (a b : Automaton) (o : Took) → o ≡ takes (view_of a) → (IsTrue (is_turn o) → view_of b ≡ taken (view_of a)) → (is_turn o ≡ false → b ≡ a) → IsRecorded (view_of a) → IsRecorded (view_of b)
+take_goes_on a b o e f n r = go (is_turn o) refl
+  where
+    go : (c : Bool) → is_turn o ≡ c → IsRecorded (view_of b)
+    go true w = let t : (t : TurnView) × (o ≡ took.Turn t) = turn_answer o w in goes_on (take_back a b o e f r t.0 t.1).1.lengthens r
+    go false w = subst (λ (x : Automaton). IsRecorded (view_of x)) (sym (n w)) r

@@ -15,7 +15,7 @@ use Rattle.session.proofs.Seen.{waits_as}
 look_ended : (l : Look) (s : State) (t : Option ℕ) → IsLook l s t → is_ended l ≡ has_ended s
 look_ended view.Idle s t h = sym (ap has_ended h.0)
 look_ended (view.Running q) s t h = sym (ap has_ended h.0)
-look_ended (view.Out room further) s t h = sym (ap has_ended h.0.1.0)
+look_ended (view.Out room further) s t h = sym (ap has_ended h.0.1)
 look_ended (view.More q) s t h = sym (ap has_ended h.0)
 look_ended (view.Prompting q) s t h = sym (ap has_ended h.0)
 look_ended view.Ended s t h = sym (ap has_ended h.0)
@@ -27,7 +27,7 @@ module _ (v : View) (p : Pengine) (k : IsKept v p) where
   look_takes : (l : Look) → IsLook l p.state p.turn → answer.takes_at v l ≡ takes_at v.program v.settings p p.state p.turn
   look_takes view.Idle h = rw (h.0, h.1) refl
   look_takes (view.Running q) h = rw (h.0, h.1, waits_as v p k, sym k.number, sym k.steps, sym k.events) refl
-  look_takes (view.Out room further) h = rw (h.0.1.0, h.1) refl
+  look_takes (view.Out room further) h = rw (h.0.1, h.1) refl
   look_takes (view.More q) h = rw (h.0, h.1) refl
   look_takes (view.Prompting q) h = rw (h.0, h.1) refl
   look_takes view.Ended h = rw (h.0, h.1) refl

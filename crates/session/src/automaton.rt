@@ -339,19 +339,18 @@ impl Automaton {
         Some((number, event))
     }
 
-    // Moves the events that wait, at most so many, to a list that has places for them.
-    fn move_out(&mut self, max: usize, events: &mut HeapCircularBuffer<Event>)
+    // Moves the first events that wait, so many, to a list that has places for them.
+    fn move_out(&mut self, many: usize, events: &mut HeapCircularBuffer<Event>)
+        requires wait { many ≤ length self.old.queue.items }
         requires none { events.old.items ≡ [] }
-        requires places { max ≤ events.old.capacity }
-        ensures moved { events.new ≡ buffer (take max self.old.queue.items) events.old.capacity }
-        ensures left { self.new ≡ record self.old { queue = buffer (drop max self.old.queue.items) self.old.queue.capacity; pulled = min (self.old.pulled + min max (length self.old.queue.items)) (2 ^ 64 - 1) } }
+        requires places { many ≤ events.old.capacity }
+        ensures moved { events.new ≡ buffer (take many self.old.queue.items) events.old.capacity }
+        ensures left { self.new ≡ record self.old { queue = buffer (drop many self.old.queue.items) self.old.queue.capacity } }
     {
-        for _ in 0..max {
-            let Some(event) = self.queue.pop_front() else {
-                return;
-            };
-            self.pulled = self.pulled.saturating_add(1);
-            put(events, event);
+        for _i in 0..many {
+            if let Some(event) = self.queue.pop_front() {
+                put(events, event);
+            }
         }
     }
 
@@ -371,7 +370,9 @@ impl Automaton {
             return Ok(None);
         }
         let first = self.pulled;
-        self.move_out(max, &mut events);
+        let many = max.min(self.queue.len());
+        self.move_out(many, &mut events);
+        self.pulled = first.saturating_add(many as u64);
         self.settle();
         Ok(Some(Waiting::new(first, events)))
     }
