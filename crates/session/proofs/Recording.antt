@@ -1,6 +1,7 @@
 -- Each call lengthens the entries of a session by its own.
-use Rattle.std.proofs.Common.{◌≡◌, ◌≢◌, ℕ, ◌+◌, ◌-◌, ◌≤◌, ◌<◌, Bool, true, false, List, [], ◌∷◌, ◌++◌, length, nat_lt, ◌==◌, if◌then◌else◌, Option, Some, None, IsTrue, refl, ap, sym, subst, ◌∙◌, length-append, eq-eqb, arith}
+use Rattle.std.proofs.Common.{◌≡◌, ◌≢◌, ℕ, suc, min, ◌+◌, ◌-◌, ◌≤◌, ◌<◌, Bool, true, false, List, [], ◌∷◌, ◌++◌, length, nat_lt, ◌==◌, if◌then◌else◌, Option, Some, None, IsTrue, refl, ap, sym, subst, ◌∙◌, length-append, eq-eqb, arith}
 use Rattle.std.proofs.lemmas.Bool.{ltb-true, eqb-true}
+use Rattle.std.proofs.lemmas.List.{length-map}
 use Rattle.program.specs.Loaded.{Loaded}
 use Rattle.sandbox_walk.specs.Keeping.{KeepsSandbox}
 use Rattle.event_core.specs.declared.event.Event.{Event}
@@ -15,7 +16,7 @@ use Rattle.session.specs.declared.answers.Given.{Given as Outcome}
 use Rattle.session.specs.declared.answers.Given.TheVariants as given
 use Rattle.session.specs.After as state
 use Rattle.session.specs.After.{State, Pengine, Entry, Sent, Pulled, Abort, Taken, Given, after, after_entry, made, waiting, most_waiting, most_requests}
-use Rattle.session.specs.Answers.{is_turn, takes, takes_at, is_present, gives, is_kept}
+use Rattle.session.specs.Answers.{is_ended, is_turn, takes, takes_at, is_present, gives, is_kept}
 use Rattle.session.specs.Begun.{first_of, IsBegun}
 use Rattle.session.specs.Legal.{IsRunning, IsLive, TurnsAt, IsAllowed, Holds}
 use Rattle.session.specs.Turns.{Turns}
@@ -25,7 +26,8 @@ use Rattle.session.specs.Recorded.{ArePossible, stood, IsRecord, IsRecorded, Len
 use Rattle.session.specs.declared.took.Took.{Took}
 use Rattle.session.specs.declared.took.Took.TheVariants as took
 use Rattle.session.specs.declared.automaton.Automaton.{Automaton}
-use Rattle.session.specs.Kept.{view_of}
+use Rattle.session.specs.declared.letter.Letter.{Letter}
+use Rattle.session.specs.Kept.{view_of, look_of, requests_of}
 use Rattle.session.proofs.Fates
 use Rattle.session.proofs.Fates.{taken_out}
 use Rattle.session.proofs.Growing.{after_append, after_one}
@@ -353,3 +355,27 @@ take_goes_on a b o e f n r = go (is_turn o) refl
     go : (c : Bool) → is_turn o ≡ c → IsRecorded (view_of b)
     go true w = let t : (t : TurnView) × (o ≡ took.Turn t) = turn_answer o w in goes_on (take_back a b o e f r t.0 t.1).1.lengthens r
     go false w = subst (λ (x : Automaton). IsRecorded (view_of x)) (sym (n w)) r
+
+-- A send and a pull in code
+
+not_false : (b : Bool) → b ≡ false → b ≡ true → ⊥
+not_false b e f = let w : false ≡ true = sym e ∙ f in cc
+
+pub sent_back : (a b : Automaton) (r : Request) (ended : Bool) → ended ≡ is_ended (look_of a.state) → ended ≡ false → (n : ℕ) → n ≡ length a.mailbox.items → n < 64 → Enters (Sent r) (view_of a) (view_of b) → Lengthens (Sent r ∷ []) (view_of a) (view_of b)
+sent_back a b r x e f n k l d =
+    let m : length (requests_of a.mailbox.items) ≡ length a.mailbox.items = length-map (λ (z : Letter). z.node) a.mailbox.items in
+    sends (view_of a) (view_of b) r (λ h. not_false x f (e ∙ ap is_ended h)) (omega (arith, k, l, m)) d
+
+pub pulled_one : (a b : Automaton) (e : Event) (rest : List Event) → a.queue.items ≡ e ∷ rest → Enters (Pulled 1) (view_of a) (view_of b) → Lengthens (Pulled 1 ∷ []) (view_of a) (view_of b)
+pulled_one a b e rest q d =
+    let k : length a.queue.items ≡ suc (length rest) = ap (λ (l : List Event). length l) q in
+    pulls (view_of a) (view_of b) 1 (omega arith) (omega (arith, k)) d
+
+filled : (xs : List Event) → xs ≢ [] → 0 < length xs
+filled [] n = absurd (n refl)
+filled (x ∷ xs) n = omega arith
+
+pub pulled_some : (a b : Automaton) (max : ℕ) → 0 < max → a.queue.items ≢ [] → Enters (Pulled (min max (length a.queue.items))) (view_of a) (view_of b) → Lengthens (Pulled (min max (length a.queue.items)) ∷ []) (view_of a) (view_of b)
+pulled_some a b max some n d =
+    let k : 0 < length a.queue.items = filled a.queue.items n in
+    pulls (view_of a) (view_of b) (min max (length a.queue.items)) (omega (arith, some, k)) (omega arith) d

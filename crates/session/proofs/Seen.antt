@@ -1,7 +1,7 @@
 -- What the code does to a pengine, and what the definition does, look the same.
-use Rattle.std.proofs.Common.{◌≡◌, ◌≢◌, ℕ, zero, suc, ◌+◌, ◌-◌, ◌≤◌, ◌<◌, ◌^◌, min, Bool, true, false, ◌&&◌, List, [], ◌∷◌, ◌++◌, map, length, drop, slice_get, nat_lt, nat_le, if◌then◌else◌, Option, Some, None, All, refl, ap, sym, subst, ◌∙◌, append_assoc, append-nil, length-append, IsTrue, arith}
+use Rattle.std.proofs.Common.{◌≡◌, ◌≢◌, ℕ, zero, suc, ◌+◌, ◌-◌, ◌≤◌, ◌<◌, ◌^◌, min, Bool, true, false, ◌&&◌, List, [], ◌∷◌, ◌++◌, map, length, take, drop, slice_get, nat_lt, nat_le, if◌then◌else◌, Option, Some, None, All, refl, ap, sym, subst, ◌∙◌, append_assoc, append-nil, length-append, IsTrue, arith}
 use Rattle.std.proofs.Math.Seq.{drop-append_seam}
-use Rattle.std.proofs.lemmas.List.{map-append, length-map}
+use Rattle.std.proofs.lemmas.List.{map-append, length-map, take-append-drop}
 use Rattle.std.proofs.lemmas.List.Elements.{All-push, All-nil, All-rest, All-head, All-drop}
 use Rattle.std.proofs.lemmas.Bool.{ltb-true, lt-ltb}
 use Rattle.circular_buffer.specs.Buffer.{buffer}
@@ -675,6 +675,26 @@ one_more k = omega arith
 
 pub pulled_does : (a : Automaton) (e : Event) (es : List Event) (w : View) → a.queue.items ≡ e ∷ es → Settles (view_of (record a { queue = buffer es a.queue.capacity; pulled = min (a.pulled + 1) (2 ^ 64 - 1) })) w → Enters (Pulled 1) (view_of a) w
 pulled_does a e es w i d = record { program = d.program; settings = d.settings; seen = λ p h. subst (λ (k : ℕ). IsSeen w (settled (spec_seen (view_of a)) (length p.mailbox) (record p { pulled = k }))) (one_more p.pulled) (d.seen (record p { pulled = suc p.pulled }) (pulled_seen a e es p i h)) }
+
+-- several events are pulled together
+pulled_many_seen : (a : Automaton) (k : ℕ) (p : Pengine) → k ≤ length a.queue.items → IsSeen (view_of a) p → IsSeen (view_of (record a { queue = buffer (drop k a.queue.items) a.queue.capacity; pulled = min (a.pulled + k) (2 ^ 64 - 1) })) (record p { pulled = p.pulled + k })
+pulled_many_seen a k p l h = record {
+  look = h.look;
+  kept = record {
+    mailbox = h.kept.mailbox;
+    number = h.kept.number;
+    steps = h.kept.steps;
+    events = h.kept.events;
+    pulled = (let m : a.pulled ≡ min p.pulled (2 ^ 64 - 1) = h.kept.pulled in omega (arith, m));
+    before = h.kept.before ++ take k a.queue.items;
+    handed = (let m : length (h.kept.before ++ take k a.queue.items) ≡ length h.kept.before + length (take k a.queue.items) = length-append h.kept.before (take k a.queue.items) in
+        let n : length (take k a.queue.items) ≡ min k (length a.queue.items) = length-take k a.queue.items in omega (arith, m, n, l, h.kept.handed));
+    emitted = h.kept.emitted ∙ ap (λ (x : List Event). h.kept.before ++ x) (sym (take-append-drop k a.queue.items)) ∙ sym (append_assoc h.kept.before (take k a.queue.items) (drop k a.queue.items));
+  };
+}
+
+pub pulled_many_does : (a : Automaton) (k : ℕ) (w : View) → k ≤ length a.queue.items → Settles (view_of (record a { queue = buffer (drop k a.queue.items) a.queue.capacity; pulled = min (a.pulled + k) (2 ^ 64 - 1) })) w → Enters (Pulled k) (view_of a) w
+pulled_many_does a k w l d = record { program = d.program; settings = d.settings; seen = λ p h. d.seen (record p { pulled = p.pulled + k }) (pulled_many_seen a k p l h) }
 
 abbrev pub cleared : Automaton → Automaton
 cleared a = record a { mailbox = buffer [] a.mailbox.capacity }
