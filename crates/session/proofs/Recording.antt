@@ -363,7 +363,7 @@ not_false b e f = let w : false ≡ true = sym e ∙ f in cc
 
 pub sent_back : (a b : Automaton) (r : Request) (ended : Bool) → ended ≡ is_ended (look_of a.state) → ended ≡ false → (n : ℕ) → n ≡ length a.mailbox.items → n < 64 → Enters (Sent r) (view_of a) (view_of b) → Lengthens (Sent r ∷ []) (view_of a) (view_of b)
 sent_back a b r x e f n k l d =
-    let m : length (requests_of a.mailbox.items) ≡ length a.mailbox.items = length-map (λ (z : Letter). z.node) a.mailbox.items in
+    let m : length (requests_of a.mailbox.items) ≡ length a.mailbox.items = length-map a.mailbox.items (λ (z : Letter). z.node) in
     sends (view_of a) (view_of b) r (λ h. not_false x f (e ∙ ap is_ended h)) (omega (arith, k, l, m)) d
 
 pub pulled_one : (a b : Automaton) (e : Event) (rest : List Event) → a.queue.items ≡ e ∷ rest → Enters (Pulled 1) (view_of a) (view_of b) → Lengthens (Pulled 1 ∷ []) (view_of a) (view_of b)

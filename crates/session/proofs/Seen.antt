@@ -1,5 +1,5 @@
 -- What the code does to a pengine, and what the definition does, look the same.
-use Rattle.std.proofs.Common.{◌≡◌, ◌≢◌, ℕ, zero, suc, ◌+◌, ◌-◌, ◌≤◌, ◌<◌, ◌^◌, min, Bool, true, false, ◌&&◌, List, [], ◌∷◌, ◌++◌, map, length, take, drop, slice_get, nat_lt, nat_le, if◌then◌else◌, Option, Some, None, All, refl, ap, sym, subst, ◌∙◌, append_assoc, append-nil, length-append, IsTrue, arith}
+use Rattle.std.proofs.Common.{◌≡◌, ◌≢◌, ℕ, zero, suc, ◌+◌, ◌-◌, ◌≤◌, ◌<◌, ◌^◌, min, Bool, true, false, ◌&&◌, List, [], ◌∷◌, ◌++◌, map, length, take, drop, slice_get, nat_lt, nat_le, if◌then◌else◌, Option, Some, None, All, refl, ap, sym, subst, ◌∙◌, append_assoc, append-nil, length-append, length-take, IsTrue, arith}
 use Rattle.std.proofs.Math.Seq.{drop-append_seam}
 use Rattle.std.proofs.lemmas.List.{map-append, length-map, take-append-drop}
 use Rattle.std.proofs.lemmas.List.Elements.{All-push, All-nil, All-rest, All-head, All-drop}

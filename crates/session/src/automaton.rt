@@ -17,7 +17,7 @@ use crate::answers::Given;
 use crate::letter::Letter;
 use crate::node::Node;
 use crate::query::Query;
-use crate::ring::put;
+use crate::ring::{move_first, put};
 use crate::state::State;
 use crate::took::Took;
 use crate::turn::{Gone, Turn};
@@ -339,21 +339,6 @@ impl Automaton {
         Some((number, event))
     }
 
-    // Moves the first events that wait, so many, to a list that has places for them.
-    fn move_out(&mut self, many: usize, events: &mut HeapCircularBuffer<Event>)
-        requires wait { many ≤ length self.old.queue.items }
-        requires none { events.old.items ≡ [] }
-        requires places { many ≤ events.old.capacity }
-        ensures moved { events.new ≡ buffer (take many self.old.queue.items) events.old.capacity }
-        ensures left { self.new ≡ record self.old { queue = buffer (drop many self.old.queue.items) self.old.queue.capacity } }
-    {
-        for _i in 0..many {
-            if let Some(event) = self.queue.pop_front() {
-                put(events, event);
-            }
-        }
-    }
-
     // The events that wait are handed out together, at most so many; for want of memory the pengine is as before.
     pub(crate) fn pull_many(&mut self, max: usize) -> Result<Option<Waiting>, Memory>
         requires sound { IsSound self.old }
@@ -371,7 +356,7 @@ impl Automaton {
         }
         let first = self.pulled;
         let many = max.min(self.queue.len());
-        self.move_out(many, &mut events);
+        move_first(many, &mut self.queue, &mut events);
         self.pulled = first.saturating_add(many as u64);
         self.settle();
         Ok(Some(Waiting::new(first, events)))
