@@ -5,6 +5,7 @@ pub mod Lively
 pub mod Numbers
 pub mod Recording
 pub mod Resolution
+mod Rings
 pub mod Room
 mod Rows
 pub mod Running

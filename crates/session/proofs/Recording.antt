@@ -18,11 +18,11 @@ use Rattle.session.specs.After as state
 use Rattle.session.specs.After.{State, Pengine, Entry, Sent, Pulled, Abort, Taken, Given, after, after_entry, made, waiting, most_waiting, most_requests}
 use Rattle.session.specs.Answers.{is_ended, is_turn, takes, takes_at, is_present, gives, is_kept}
 use Rattle.session.specs.Begun.{first_of, IsBegun}
-use Rattle.session.specs.Legal.{IsRunning, IsLive, TurnsAt, IsAllowed, Holds}
+use Rattle.session.specs.Legal.{IsRunning, IsLive, TurnsAt, IsAllowed, ArePossible, Holds}
 use Rattle.session.specs.Turns.{Turns}
 use Rattle.session.specs.Views.{Look, Idle, Running, Out, More, Prompting, Ended, View, Gone, TurnView, IsLook, IsKept, IsSeen, IsPresent, IsTurnOf, spec_seen, Enters, taken, turn_at}
 use Rattle.session.specs.TurnsKept.{IsAhead, Starts, Keeps, part_seen}
-use Rattle.session.specs.Recorded.{ArePossible, stood, IsRecord, IsRecorded, Lengthens, IsOwn, IsOut, present, lost, IsTaken, Takes, given_back, GivesBack}
+use Rattle.session.specs.Recorded.{stood, IsRecord, IsRecorded, Lengthens, IsOwn, IsOut, present, lost, IsTaken, Takes, given_back, GivesBack}
 use Rattle.session.specs.declared.took.Took.{Took}
 use Rattle.session.specs.declared.took.Took.TheVariants as took
 use Rattle.session.specs.declared.automaton.Automaton.{Automaton}
@@ -32,7 +32,7 @@ use Rattle.session.proofs.Fates
 use Rattle.session.proofs.Fates.{taken_out}
 use Rattle.session.proofs.Growing.{after_append, after_one}
 use Rattle.session.proofs.Numbers.{lost_turns_are_older}
-use Rattle.session.proofs.Sandboxed.{recorded_turns_start_well}
+use Rattle.session.proofs.Sandboxed.{turns_start_well}
 use Rattle.session.proofs.Seen.{same_spec, waits_as, taken_enters}
 
 pub possible_append : (spec : Spec) (es fs : List Entry) (p : Pengine) → ArePossible spec es p → ArePossible spec fs (after spec es p) → ArePossible spec (es ++ fs) p
@@ -149,7 +149,7 @@ starts_well v r q e =
     let h : IsSeen v p = r.recorded.seen in
     subst (λ (n : ℕ). IsAhead v.program v.settings q n v.events) (sym h.kept.steps)
     (subst (λ (n : ℕ). IsAhead v.program v.settings q p.steps n) (sym h.kept.events)
-    (recorded_turns_start_well v.program v.settings r.keeps r.entries r.recorded.possible q (running_state v p q e h).0))
+    (turns_start_well v.program v.settings r.keeps r.entries r.recorded.possible q (running_state v p q e h).0))
 
 takes_turn : (v : View) (t : TurnView) → takes v ≡ took.Turn t → IsTrue (is_turn (takes v))
 takes_turn v t e = ap is_turn e

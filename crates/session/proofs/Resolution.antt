@@ -66,4 +66,4 @@ resolution_lively spec real = record {
 }
 
 pub schedule_doesnt_matter : ScheduleDoesntMatter
-schedule_doesnt_matter spec real budget es l = schedule spec (resolution_lively spec real) budget es l
+schedule_doesnt_matter spec real es l = schedule spec (resolution_lively spec real) es l

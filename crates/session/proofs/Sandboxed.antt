@@ -1,23 +1,17 @@
 -- Over a program that keeps to the sandbox no query reaches outside, and its turns start as they are to be.
 use Rattle.std.proofs.Common.{◌≡◌, List, [], None, refl}
-use Rattle.program.specs.Loaded.{Loaded}
 use Rattle.solve_model.specs.Trace.{world_of}
-use Rattle.sandbox_walk.specs.Keeping.{KeepsSandbox}
 use Rattle.event_core.specs.declared.request.Ask.{Ask}
 use Rattle.event_core.specs.declared.request.Request.{Request}
-use Rattle.event_core.specs.declared.settings.Settings.{Settings}
-use Rattle.event_core.specs.Full.{Spec, Query}
+use Rattle.event_core.specs.Full.{Spec}
 use Rattle.event_core.specs.Texts.{quoted}
 use Rattle.event_core.specs.Fits.{fits}
 use Rattle.event_core.specs.Names.{answer_term}
 use Rattle.event_core.specs.Standing.{spec_of, chunk_of, style_of}
 use Rattle.event_core.proofs.Refusing.{asked_stay_inside}
-use Rattle.session.specs.After.{Running, Entry, after, made}
 use Rattle.session.specs.Laws.{KeptProgramsResolve, TurnsStartWell}
-use Rattle.session.specs.Recorded.{ArePossible}
-use Rattle.session.specs.TurnsKept.{IsAhead}
 use Rattle.session.proofs.Schedule.{Fitting, allowed, after_next, after_respond}
-use Rattle.session.proofs.Starting.{IsOn, running, legal_possible}
+use Rattle.session.proofs.Starting.{IsOn, running}
 
 pub kept_programs_resolve : KeptProgramsResolve
 kept_programs_resolve cs s keeps = record {
@@ -35,11 +29,7 @@ not_refused (allowed v) = v
 not_refused (after_next c f e) = not_refused f
 not_refused (after_respond t f e) = not_refused f
 
--- where each turn may have a budget of its own
-pub recorded_turns_start_well : (cs : Loaded) (s : Settings) → KeepsSandbox cs → (es : List Entry) → ArePossible (spec_of cs s) es made → (q : Query) → (after (spec_of cs s) es made).state ≡ Running q → IsAhead cs s q (after (spec_of cs s) es made).steps (after (spec_of cs s) es made).events
-recorded_turns_start_well cs s keeps es l q e =
+pub turns_start_well : TurnsStartWell
+turns_start_well cs s keeps es l q e =
     let h : IsOn (spec_of cs s) (kept_programs_resolve cs s keeps) q _ _ = running (spec_of cs s) (kept_programs_resolve cs s keeps) es l q e in
     record { more = h.more; before = h.before; later = h.later; inside = asked_stay_inside cs s q.asked keeps (not_refused h.fitting) q.requests }
-
-pub turns_start_well : TurnsStartWell
-turns_start_well cs s keeps budget es l q e = recorded_turns_start_well cs s keeps es (legal_possible (spec_of cs s) budget es made l) q e

@@ -19,8 +19,7 @@ use Rattle.event_core.proofs.Longer.{requests_only_add}
 use Rattle.event_core.proofs.Rising.{steps_never_fall}
 use Rattle.session.specs.After as state
 use Rattle.session.specs.After.{State, Idle, Running, Ended, Pengine, waiting, emits, ends, begins, fits, first_consumed, consumes_now, settled, Entry, Sent, Pulled, Abort, Destroy, Taken, Given, rest_at, advances, turned_at, aborted_at, destroyed_at, struck, handed_out, entered, after_entry, after, made, most_waiting}
-use Rattle.session.specs.Legal.{TurnsAt, IsAllowed, IsLegal}
-use Rattle.session.specs.Recorded.{ArePossible}
+use Rattle.session.specs.Legal.{TurnsAt, IsAllowed, IsLegal, ArePossible}
 use Rattle.session.specs.Turns.{last_step, Turned}
 use Rattle.session.specs.Laws.{IsResolution}
 use Rattle.session.proofs.Schedule.{Fitting, allowed, after_next, after_respond, Lively}

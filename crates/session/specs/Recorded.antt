@@ -1,15 +1,9 @@
 -- A pengine with the entries that it has had: what a session looks like, and whose turns are out.
 use Rattle.std.specs.Prelude.{◌≡◌, ℕ, Bool, true, false, List, [], ◌∷◌, ◌++◌, length, Option, Some, None}
 use Rattle.sandbox_walk.specs.Keeping.{KeepsSandbox}
-use Rattle.event_core.specs.Full.{Spec}
-use Rattle.session.specs.After.{Running, Pengine, Entry, Taken, Given, after, after_entry, made}
-use Rattle.session.specs.Legal.{IsAllowed, Holds}
+use Rattle.session.specs.After.{Running, Pengine, Entry, Taken, Given, after, made}
+use Rattle.session.specs.Legal.{ArePossible, Holds}
 use Rattle.session.specs.Views.{View, Gone, TurnView, IsSeen, spec_seen}
-
--- Each entry is allowed after those before it, each turn with a budget of its own.
-unfoldable pub ArePossible : Spec → List Entry → Pengine → Type 0
-ArePossible spec [] p = Unit {0}
-ArePossible spec (e ∷ es) p = ((budget : ℕ) × IsAllowed spec budget e p) × ArePossible spec es (after_entry spec e p)
 
 -- the pengine of these entries, over the program and settings of the view
 abbrev pub stood : View → List Entry → Pengine

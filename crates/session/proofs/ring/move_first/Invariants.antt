@@ -3,7 +3,7 @@ use Rattle.session.proofs.ring.move_first.Given as goal
 
 -- what was moved, and behind it what is left
 abbrev pub invariant-loop-i : goal.invariant-loop-i
-invariant-loop-i l = record {
+invariant-loop-i g l = record {
   split : l.to.items ++ l.from.items ≡ l.fn.from.items;
   count : length l.to.items ≡ l._i;
   places : l.to.capacity ≡ l.fn.to.capacity;
