@@ -25,12 +25,12 @@ seen_queue v p h = ap (λ (n : ℕ). drop n p.emitted) (sym h.kept.handed) ∙ a
 
 module _ (v : View) (p : Pengine) (k : IsKept v p) where
   look_takes : (l : Look) → IsLook l p.state p.turn → answer.takes_at v l ≡ takes_at v.program v.settings p p.state p.turn
-  look_takes view.Idle h = rw (h.0, h.1) refl
+  look_takes view.Idle h = rw h.0 refl
   look_takes (view.Running q) h = rw (h.0, h.1, waits_as v p k, sym k.number, sym k.steps, sym k.events) refl
   look_takes (view.Out room further) h = rw (h.0.1, h.1) refl
-  look_takes (view.More q) h = rw (h.0, h.1) refl
-  look_takes (view.Prompting q) h = rw (h.0, h.1) refl
-  look_takes view.Ended h = rw (h.0, h.1) refl
+  look_takes (view.More q) h = rw h.0 refl
+  look_takes (view.Prompting q) h = rw h.0 refl
+  look_takes view.Ended h = rw h.0 refl
 
 pub answers_are_the_pengines : AnswersAreThePengines
 answers_are_the_pengines v p h =
