@@ -48,7 +48,7 @@ runs_still spec q p r h g = still spec (length r.mailbox) r (ap consumes_now (g 
 out_as : (q : Query) (k room n e : ℕ) (p r : Pengine) → r ≡ p → IsOut q k room n e p → IsOut q k room n e r
 out_as q k room n e p r h o = rw h o
 
-out_entry : (spec : Spec) (budget : ℕ) (q : Query) (k room n e : ℕ) (f : Entry) (p : Pengine) → IsOut q k room n e p → IsAllowed spec budget f p → returns k f ≡ false → breaks f ≡ false → IsOut q k room n e (after_entry spec f p)
+pub out_entry : (spec : Spec) (budget : ℕ) (q : Query) (k room n e : ℕ) (f : Entry) (p : Pengine) → IsOut q k room n e p → IsAllowed spec budget f p → returns k f ≡ false → breaks f ≡ false → IsOut q k room n e (after_entry spec f p)
 out_entry spec budget q k room n e (Sent r) p o a b c =
     out_as q k room n e (entered spec (Sent r) p) _ (runs_still spec q p (entered spec (Sent r) p) o.state refl) (record { state = o.state; turn = o.turn; number = o.number; steps = o.steps; events = o.events })
 out_entry spec budget q k room n e (Pulled m) p o a b c =
@@ -89,7 +89,7 @@ without_other j k (n ∷ ns) d h = go (n == j) refl h (without_other j k ns d)
     go false w (inl x) ih = inl x
     go false w (inr x) ih = inr (ih x)
 
-lost_entry : (spec : Spec) (k : ℕ) (f : Entry) (p : Pengine) → Holds k p.lost → returns k f ≡ false → Holds k (after_entry spec f p).lost
+pub lost_entry : (spec : Spec) (k : ℕ) (f : Entry) (p : Pengine) → Holds k p.lost → returns k f ≡ false → Holds k (after_entry spec f p).lost
 lost_entry spec k f p h r = rw (entry_loses spec f p) (go f r)
   where
     go : (f : Entry) → returns k f ≡ false → Holds k (lost_after f p)
@@ -101,7 +101,7 @@ lost_entry spec k f p h r = rw (entry_loses spec f p) (go f r)
     go (Given j n e starved false) r = without_other j k p.lost r h
     go (Given j n e starved true) r = h
 
-broken_entry : (spec : Spec) (q : Query) (k room n e : ℕ) (f : Entry) (p : Pengine) → IsOut q k room n e p → breaks f ≡ true → Holds k (after_entry spec f p).lost
+pub broken_entry : (spec : Spec) (q : Query) (k room n e : ℕ) (f : Entry) (p : Pengine) → IsOut q k room n e p → breaks f ≡ true → Holds k (after_entry spec f p).lost
 broken_entry spec q k room n e f p o b = rw (entry_loses spec f p) (go f b)
   where
     go : (f : Entry) → breaks f ≡ true → Holds k (lost_after f p)

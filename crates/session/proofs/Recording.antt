@@ -29,7 +29,7 @@ use Rattle.session.specs.declared.automaton.Automaton.{Automaton}
 use Rattle.session.specs.declared.letter.Letter.{Letter}
 use Rattle.session.specs.Kept.{view_of, look_of, requests_of}
 use Rattle.session.proofs.Fates
-use Rattle.session.proofs.Fates.{taken_out}
+use Rattle.session.proofs.Fates.{taken_out, breaks, returns, out_entry, lost_entry, broken_entry}
 use Rattle.session.proofs.Growing.{after_append, after_one}
 use Rattle.session.proofs.Numbers.{lost_turns_are_older}
 use Rattle.session.proofs.Sandboxed.{turns_start_well}
@@ -379,3 +379,39 @@ pub pulled_some : (a b : Automaton) (max : ℕ) → 0 < max → a.queue.items �
 pulled_some a b max some n d =
     let k : 0 < length a.queue.items = filled a.queue.items n in
     pulls (view_of a) (view_of b) (min max (length a.queue.items)) (omega (arith, some, k)) (omega arith) d
+
+-- A turn stays out until it is given back: as long as nothing breaks its query off, the query, its number, its steps and its events stay, and after that it is lost.
+pub still_out : (spec : Spec) (budget : ℕ) (f : Entry) (p : Pengine) (t : TurnView) → IsAllowed spec budget f p → returns t.number f ≡ false → IsOut p t → IsOut (after_entry spec f p) t
+still_out spec budget f p t a r (lost h) = lost (lost_entry spec t.number f p h r)
+still_out spec budget f p t a r (present room own) = go (breaks f) refl
+  where
+    out : Fates.IsOut t.query t.number room t.steps t.events p
+    out = record { state = own.query; turn = own.is_out; number = sym own.number; steps = sym own.steps; events = sym own.events }
+
+    go : (b : Bool) → breaks f ≡ b → IsOut (after_entry spec f p) t
+    go true w = lost (broken_entry spec t.query t.number room t.steps t.events f p out w)
+    go false w =
+        let o : Fates.IsOut t.query t.number room t.steps t.events (after_entry spec f p) = out_entry spec budget t.query t.number room t.steps t.events f p out a r w in
+        present room (record { is_out = o.turn; query = o.state; number = sym o.number; steps = sym o.steps; events = sym o.events; has_room = own.has_room })
+
+pub still_taken : (e : Entry) {v w : View} {t : TurnView} → returns t.number e ≡ false → Lengthens (e ∷ []) v w → IsTaken v t → IsTaken w t
+still_taken e {v} {w} {t} r l k =
+    let same : spec_seen v ≡ spec_seen w = sym (same_spec w.program v.program w.settings v.settings l.program l.settings) in
+    let now : IsRecord (k.entries ++ e ∷ []) w = l.recorded k.entries k.recorded in
+    let a : (budget : ℕ) × IsAllowed (spec_seen w) budget e (stood w k.entries) = possible_head (spec_seen w) e [] (stood w k.entries) (possible_later (spec_seen w) k.entries (e ∷ []) made now.possible) in
+    let o : IsOut (stood w k.entries) t = subst (λ (z : Spec). IsOut (after z k.entries made) t) same k.out in
+    record {
+      program = k.program ∙ sym l.program;
+      settings = k.settings ∙ sym l.settings;
+      entries = k.entries ++ e ∷ [];
+      recorded = now;
+      out = subst (λ (p : Pengine). IsOut p t) (sym (stood_more w k.entries e)) (still_out (spec_seen w) a.0 e (stood w k.entries) t a.1 r o);
+    }
+
+-- a turn that has gone is out as it was
+pub gone_out : (p : Pengine) (t : TurnView) (g : Gone) → IsOut p t → IsOut p (record t { gone = Some g })
+gone_out p t g (present room own) = present room (record { is_out = own.is_out; query = own.query; number = own.number; steps = own.steps; events = own.events; has_room = own.has_room })
+gone_out p t g (lost h) = lost h
+
+pub gone_taken : {v : View} {t u : TurnView} {g : Gone} → u ≡ record t { gone = Some g } → IsTaken v t → IsTaken v u
+gone_taken {v} {t} {u} {g} e k = subst (λ (x : TurnView). IsTaken v x) (sym e) (record { program = k.program; settings = k.settings; entries = k.entries; recorded = k.recorded; out = gone_out (stood v k.entries) t g k.out })
