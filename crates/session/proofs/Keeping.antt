@@ -7,7 +7,7 @@ use Rattle.session.specs.After as state
 use Rattle.session.specs.After.{turned_at}
 use Rattle.session.specs.Views.{View, spec_seen, TurnView}
 use Rattle.session.specs.TurnsKept.{gone_view, IsGone, Keeps}
-use Rattle.session.specs.Kept.{query_of, Tells, Turns}
+use Rattle.session.specs.Kept.{query_of, Tells, TakesBack}
 use Rattle.session.proofs.Seen.{same_spec, Settles, then_settles}
 
 module _ (v : View) (t : TurnView) (q : kept.Query) (g : kept_turn.Gone) (gone : IsGone t (gone_view g))
@@ -28,7 +28,7 @@ module _ (v : View) (t : TurnView) (q : kept.Query) (g : kept_turn.Gone) (gone :
             ∙ ap (λ n. if nat_le (length (part_of spec (query_of q)).events) (n + length g.events) then Some (part_of spec (query_of q)).rest else None) events;
       }
 
-  pub keeps : (w x : View) → Turns q g v w → Settles w x → Keeps v t (gone_view g) x
+  pub keeps : (w x : View) → TakesBack q g v w → Settles w x → Keeps v t (gone_view g) x
   keeps w x k d = record {
     program = d.program ∙ k.program;
     settings = d.settings ∙ k.settings;

@@ -32,7 +32,7 @@ use Rattle.session.specs.Views.{Look, Idle, Running, Out, More, Prompting, Ended
 use Rattle.event_core.specs.declared.spec.Spec as wanted
 use Rattle.session.specs.Begun.{first_of, IsBegun}
 use Rattle.session.specs.Answers.{is_turn, takes, takes_at, last_of}
-use Rattle.session.specs.Kept.{query_of, look_of, requests_of, view_of, resting, rests, rests_now, is_busy, MayWait, further_of, Refuses, IsLetter, IsSound, IsBack, Tells, Turns, says, closed}
+use Rattle.session.specs.Kept.{query_of, look_of, requests_of, view_of, resting, rests, rests_now, is_busy, MayWait, further_of, Refuses, IsLetter, IsSound, IsBack, Tells, TakesBack, says, closed}
 
 -- one event more
 pub said : (v : View) (p : Pengine) (e : Event) → IsKept v p → IsKept (record v { queue = v.queue ++ e ∷ [] }) (emits e p)
@@ -584,7 +584,7 @@ turned_is spec q g s p e = ap (λ z. turned_at spec g.steps (length g.events) g.
 back_kept : (a : Automaton) (p : Pengine) → IsKept (view_of a) p → IsKept (view_of a) (record p { turn = None })
 back_kept a p h = moved (view_of a) p (look_of a.state) p.state None h
 
-pub starved_turns : (a : Automaton) (q : kept.Query) (g : kept_turn.Gone) → g.starved ≡ true → Turns q g (view_of a) (view_of (closed a.settings.destroys (says event.Memory (advanced g a))))
+pub starved_turns : (a : Automaton) (q : kept.Query) (g : kept_turn.Gone) → g.starved ≡ true → TakesBack q g (view_of a) (view_of (closed a.settings.destroys (says event.Memory (advanced g a))))
 starved_turns a q g e = record {
   program = closed_clauses a.settings.destroys (says event.Memory (advanced g a));
   settings = closed_settings a.settings.destroys (says event.Memory (advanced g a));
@@ -627,7 +627,7 @@ module _ (a : Automaton) (q : kept.Query) (g : kept_turn.Gone) (f : g.starved �
   back_seen : (p : Pengine) → Tells (spec_seen (view_of a)) (query_of q) a.events g → IsSeen (view_of a) p → IsKept (view_of (advanced g a)) (back p)
   back_seen p t h = gave_kept (spec_seen (view_of a)) (query_of q) g a (record p { turn = None }) t (back_kept a p h.kept)
 
-  pub runs_on : g.rest ≡ None → Turns q g (view_of a) (view_of (record (advanced g a) { state = at.Running q }))
+  pub runs_on : g.rest ≡ None → TakesBack q g (view_of a) (view_of (record (advanced g a) { state = at.Running q }))
   runs_on e = record {
     program = refl;
     settings = refl;
@@ -635,7 +635,7 @@ module _ (a : Automaton) (q : kept.Query) (g : kept_turn.Gone) (f : g.starved �
         (record { look = (s, refl); kept = moved (view_of (advanced g a)) (back p) (Running (query_of q)) p.state None (back_seen p t h) });
   }
 
-  pub rests_more : g.rest ≡ Some rest.More → Turns q g (view_of a) (view_of (record (advanced g a) { state = at.More q }))
+  pub rests_more : g.rest ≡ Some rest.More → TakesBack q g (view_of a) (view_of (record (advanced g a) { state = at.More q }))
   rests_more e = record {
     program = refl;
     settings = refl;
@@ -643,7 +643,7 @@ module _ (a : Automaton) (q : kept.Query) (g : kept_turn.Gone) (f : g.starved �
         (record { look = (refl, refl); kept = moved (view_of (advanced g a)) (back p) (More (query_of q)) (state.More (query_of q)) None (back_seen p t h) });
   }
 
-  pub rests_prompting : g.rest ≡ Some rest.Prompting → Turns q g (view_of a) (view_of (record (advanced g a) { state = at.Prompting q }))
+  pub rests_prompting : g.rest ≡ Some rest.Prompting → TakesBack q g (view_of a) (view_of (record (advanced g a) { state = at.Prompting q }))
   rests_prompting e = record {
     program = refl;
     settings = refl;
@@ -651,7 +651,7 @@ module _ (a : Automaton) (q : kept.Query) (g : kept_turn.Gone) (f : g.starved �
         (record { look = (refl, refl); kept = moved (view_of (advanced g a)) (back p) (Prompting (query_of q)) (state.Prompting (query_of q)) None (back_seen p t h) });
   }
 
-  pub over : g.rest ≡ Some rest.Over → Turns q g (view_of a) (view_of (closed a.settings.destroys (advanced g a)))
+  pub over : g.rest ≡ Some rest.Over → TakesBack q g (view_of a) (view_of (closed a.settings.destroys (advanced g a)))
   over e = record {
     program = closed_clauses a.settings.destroys (advanced g a);
     settings = closed_settings a.settings.destroys (advanced g a);

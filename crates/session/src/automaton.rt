@@ -11,7 +11,7 @@ ghost use Rattle.session.specs.Views as view;
 ghost use Rattle.session.specs.After.{begins, fits, first_consumed, aborted_at, struck, settled, made, Sent, Pulled, Abort, Given as GivenBack};
 ghost use Rattle.session.specs.Answers.{is_ended, takes, is_turn, last_of, gives};
 ghost use Rattle.session.specs.Views.{spec_seen, turn_at, taken, IsSeen, Does, Enters, IsTurnOf};
-ghost use Rattle.session.specs.Kept.{query_of, look_of, view_of, resting, rests, rests_now, is_busy, further_of, IsLetter, IsSound, IsBack, Turns, says, closed};
+ghost use Rattle.session.specs.Kept.{query_of, look_of, view_of, resting, rests, rests_now, is_busy, further_of, IsLetter, IsSound, IsBack, TakesBack, says, closed};
 
 use crate::answers::Given;
 use crate::letter::Letter;
@@ -444,7 +444,7 @@ impl Automaton {
         requires sound { IsSound self.old }
         requires back { IsBack self.old query gone }
         ensures sound { IsSound self.new }
-        ensures turns { Turns query gone (view_of self.old) (view_of self.new) }
+        ensures turns { TakesBack query gone (view_of self.old) (view_of self.new) }
     {
         let Gone {
             steps,
