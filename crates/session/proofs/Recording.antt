@@ -9,7 +9,6 @@ use Rattle.event_core.specs.declared.request.Ask.{Ask}
 use Rattle.event_core.specs.declared.request.Request.{Request}
 use Rattle.event_core.specs.declared.request.Request.TheVariants as request
 use Rattle.event_core.specs.declared.spec.Spec as wanted
-use Rattle.event_core.specs.declared.settings.Settings.{Settings}
 use Rattle.event_core.specs.Standing.{spec_of}
 use Rattle.event_core.specs.Full.{Spec, Query, part_of}
 use Rattle.session.specs.declared.answers.Given.{Given as Outcome}
@@ -20,7 +19,7 @@ use Rattle.session.specs.Answers.{is_ended, is_turn, takes, takes_at, is_present
 use Rattle.session.specs.Begun.{first_of, IsBegun}
 use Rattle.session.specs.Legal.{IsRunning, IsLive, TurnsAt, IsAllowed, ArePossible, Holds}
 use Rattle.session.specs.Turns.{Turns}
-use Rattle.session.specs.Views.{Look, Idle, Running, Out, More, Prompting, Ended, View, Gone, TurnView, IsLook, IsKept, IsSeen, IsPresent, IsTurnOf, spec_seen, Enters, taken, turn_at}
+use Rattle.session.specs.Views.{Look, Idle, Running, Out, More, Prompting, Ended, View, Gone, TurnView, IsLook, IsSeen, IsPresent, IsTurnOf, spec_seen, Enters, taken, turn_at}
 use Rattle.session.specs.TurnsKept.{IsAhead, Starts, Keeps, part_seen}
 use Rattle.session.specs.Recorded.{stood, IsRecord, IsRecorded, Lengthens, IsOwn, IsOut, present, lost, IsTaken, Takes, given_back, GivesBack}
 use Rattle.session.specs.declared.took.Took.{Took}

@@ -1,15 +1,12 @@
 -- What is seen of a session tells the answers of the definition.
-use Rattle.std.proofs.Common.{◌≡◌, ℕ, ◌^◌, ◌-◌, ◌<◌, Bool, true, false, ◌&&◌, ◌==◌, nat_lt, if◌then◌else◌, List, ◌++◌, length, drop, Option, Some, None, refl, sym, ap, ◌∙◌, arith}
+use Rattle.std.proofs.Common.{◌≡◌, ℕ, Bool, ◌&&◌, ◌==◌, length, drop, Option, refl, sym, ap, ◌∙◌, arith}
 use Rattle.std.proofs.Math.Seq.{drop-append_seam}
-use Rattle.event_core.specs.declared.event.Event.{Event}
-use Rattle.session.specs.declared.took.Took.{Took}
-use Rattle.session.specs.declared.took.Took.TheVariants as took
-use Rattle.session.specs.After.{State, Pengine, waiting, most_waiting}
+use Rattle.session.specs.After.{State, Pengine, waiting}
 use Rattle.session.specs.Views as view
 use Rattle.session.specs.Views.{Look, View, TurnView, IsLook, IsKept, IsSeen, turn_at}
 use Rattle.session.specs.Answers as answer
 use Rattle.session.specs.Answers.{is_ended, is_gone}
-use Rattle.session.specs.Shows.{has_ended, queue_of, takes_at, turn_from, Shows, AnswersAreThePengines}
+use Rattle.session.specs.Shows.{has_ended, queue_of, takes_at, AnswersAreThePengines}
 use Rattle.session.proofs.Seen.{waits_as}
 
 look_ended : (l : Look) (s : State) (t : Option ℕ) → IsLook l s t → is_ended l ≡ has_ended s

@@ -1,5 +1,5 @@
 -- A pengine with the entries that it has had: what a session looks like, and whose turns are out.
-use Rattle.std.specs.Prelude.{◌≡◌, ℕ, Bool, true, false, List, [], ◌∷◌, ◌++◌, length, Option, Some, None}
+use Rattle.std.specs.Prelude.{◌≡◌, ℕ, Bool, List, [], ◌∷◌, ◌++◌, length, Some}
 use Rattle.sandbox_walk.specs.Keeping.{KeepsSandbox}
 use Rattle.session.specs.After.{Running, Pengine, Entry, Taken, Given, after, made}
 use Rattle.session.specs.Legal.{ArePossible, Holds}

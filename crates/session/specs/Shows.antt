@@ -1,13 +1,12 @@
 -- What a session answers, by the pengine of the definition that it looks as.
 use Rattle.std.specs.Prelude.{◌≡◌, ℕ, ◌^◌, ◌-◌, ◌<◌, Bool, true, false, ◌&&◌, ◌==◌, if◌then◌else◌, nat_lt, List, length, drop, Option, Some, None}
 use Rattle.program.specs.Loaded.{Loaded}
-use Rattle.event_core.specs.declared.request.Request.{Request}
 use Rattle.event_core.specs.declared.event.Event.{Event}
 use Rattle.event_core.specs.declared.settings.Settings.{Settings}
 use Rattle.event_core.specs.Full.{Query}
 use Rattle.session.specs.declared.took.Took.{Took}
 use Rattle.session.specs.declared.took.Took.TheVariants as took
-use Rattle.session.specs.After.{State, Idle, Running, More, Prompting, Ended, Pengine, waiting, most_waiting}
+use Rattle.session.specs.After.{State, Running, Ended, Pengine, waiting, most_waiting}
 use Rattle.session.specs.Answers.{is_ended, is_gone, takes}
 use Rattle.session.specs.Views.{View, TurnView, IsSeen}
 

@@ -1,5 +1,5 @@
 -- How a turn is kept, and what it makes.
-use Rattle.std.specs.Prelude.{◌≡◌, ℕ, ◌+◌, ◌<◌, ◌≤◌, ◌^◌, Bool, true, false, if◌then◌else◌, ◌⊎◌, List, [], length, take, drop, nat_le, Option, Some, None, All}
+use Rattle.std.specs.Prelude.{◌≡◌, ℕ, ◌+◌, ◌<◌, ◌≤◌, ◌^◌, Bool, true, false, if◌then◌else◌, ◌⊎◌, [], length, take, drop, nat_le, Option, Some, None, All}
 use Rattle.program.specs.Loaded.{Loaded}
 use Rattle.solve_model.specs.Trace.{world_of}
 use Rattle.event_core.specs.declared.settings.Settings.{Settings}

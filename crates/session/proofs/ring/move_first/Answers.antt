@@ -1,4 +1,4 @@
-use Rattle.std.proofs.Common.{◌≡◌, ◌∙◌, ◌∷◌, [], length, take, drop, length-append, ap, sym, arith}
+use Rattle.std.proofs.Common.{◌∙◌, ◌∷◌, [], take, drop, length-append, ap, sym, arith}
 use Rattle.circular_buffer.specs.Buffer.{buffer}
 use Rattle.session.proofs.Rings.{one_moved, none_left, moved_are, left_are}
 use Rattle.session.proofs.ring.move_first.Goals as goal

@@ -1,5 +1,3 @@
-use Rattle.std.proofs.Common.{◌≡◌, None, Some}
-use Rattle.session.specs.Begun.{IsBegun}
 use Rattle.session.specs.Kept.{view_of}
 use Rattle.session.proofs.Seen.{begun_none, begun_asked}
 use Rattle.session.proofs.Recording.{begun_record, begun_recorded}

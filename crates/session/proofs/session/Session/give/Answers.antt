@@ -1,4 +1,3 @@
-use Rattle.std.proofs.Common.{◌≡◌}
 use Rattle.session.specs.Kept.{view_of}
 use Rattle.session.proofs.Recording.{turn_of, give_back, given_goes_on}
 use Rattle.session.proofs.session.Session.give.Goals as goal

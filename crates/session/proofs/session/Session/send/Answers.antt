@@ -1,4 +1,4 @@
-use Rattle.std.proofs.Common.{◌≡◌, sym, subst}
+use Rattle.std.proofs.Common.{sym, subst}
 use Rattle.session.specs.declared.automaton.Automaton.{Automaton}
 use Rattle.session.specs.Kept.{view_of}
 use Rattle.session.specs.Recorded.{IsRecorded}
