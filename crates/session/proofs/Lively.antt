@@ -32,7 +32,7 @@ moves_gives : (r : Rest) (k : ℕ) (e : Event) (p q : Part) → Moves r p q → 
 moves_gives r k e p q m u s = (omega (arith, (m u s).0), (m u s).1)
 
 module _ (style : Style) where
-  chunk_fresh : (held : List Tree) (k c : ℕ) (go : ℕ → List Request → Part) → ((d : ℕ) → Fresh (go d [])) → Fresh (after_chunk held k c [] go)
+  chunk_fresh : (held : List Tree) (k c : ℕ) (go : ℕ → List Request → Part) → ((d : ℕ) → Fresh (go d [])) → Fresh (after_chunk style.names held k c [] go)
   chunk_fresh [] k c go h = h c
   chunk_fresh (t ∷ ts) k c go h = (omega arith, refl)
 
@@ -78,7 +78,7 @@ module _ (style : Style) where
     respond_next P (Stops ∷ rs) go w m u s = cc
     respond_next P (Respond t ∷ rs) go w m u s = m rs w u s
 
-    chunk_next : (P : ℕ → Type 0) (held : List Tree) (k c : ℕ) (rs : List Request) (go : ℕ → List Request → Part) → P (count rs) → ((c : ℕ) → P 0 → Fresh (go c [])) → ((c : ℕ) (qs : List Request) → P (count qs) → Moves More (go c qs) (go c (qs ++ Next d ∷ []))) → Moves More (after_chunk held k c rs go) (after_chunk held k c (rs ++ Next d ∷ []) go)
+    chunk_next : (P : ℕ → Type 0) (held : List Tree) (k c : ℕ) (rs : List Request) (go : ℕ → List Request → Part) → P (count rs) → ((c : ℕ) → P 0 → Fresh (go c [])) → ((c : ℕ) (qs : List Request) → P (count qs) → Moves More (go c qs) (go c (qs ++ Next d ∷ []))) → Moves More (after_chunk style.names held k c rs go) (after_chunk style.names held k c (rs ++ Next d ∷ []) go)
     chunk_next P [] k c rs go w f m = m c rs w
     chunk_next P (t ∷ ts) k c rs go w f m = moves_gives More k (Success (t ∷ ts) style.names true) (at_next rs c go) (at_next (rs ++ Next d ∷ []) c go) (next_next P rs c go w f m)
 
@@ -127,7 +127,7 @@ module _ (style : Style) where
     resp_resp P Q (Stops ∷ rs) go go' w v f m u s = cc
     resp_resp P Q (Respond t ∷ rs) go go' w v f m u s = m rs w v u s
 
-    chunk_resp : (P Q : ℕ → Type 0) (held : List Tree) (k c : ℕ) (rs : List Request) (go go' : ℕ → List Request → Part) → P (count rs) → Q (suc (count rs)) → ((c : ℕ) (qs : List Request) → P (count qs) → Q (suc (count qs)) → Moves Prompting (go c qs) (go' c (qs ++ Respond a ∷ []))) → Moves Prompting (after_chunk held k c rs go) (after_chunk held k c (rs ++ Respond a ∷ []) go')
+    chunk_resp : (P Q : ℕ → Type 0) (held : List Tree) (k c : ℕ) (rs : List Request) (go go' : ℕ → List Request → Part) → P (count rs) → Q (suc (count rs)) → ((c : ℕ) (qs : List Request) → P (count qs) → Q (suc (count qs)) → Moves Prompting (go c qs) (go' c (qs ++ Respond a ∷ []))) → Moves Prompting (after_chunk style.names held k c rs go) (after_chunk style.names held k c (rs ++ Respond a ∷ []) go')
     chunk_resp P Q [] k c rs go go' w v m = m c rs w v
     chunk_resp P Q (t ∷ ts) k c rs go go' w v m = moves_gives Prompting k (Success (t ∷ ts) style.names true) (at_next rs c go) (at_next (rs ++ Respond a ∷ []) c go') (next_resp P Q rs c go go' w v m)
 

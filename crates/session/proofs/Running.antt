@@ -132,13 +132,14 @@ module _ (t : TurnView) (g : Gone) (b reaches : ℕ) (L : List (ℕ × Event)) (
       turned = by full refl
 
   -- what is known of it
-  pub gone : t.steps + g.steps < 2 ^ 64 → t.events + length g.events < 2 ^ 64 → IsGone t g
-  gone steps events = record {
+  pub gone : Starts t → g.starved ≡ false → Turned (part_seen t) t.steps t.events b t.room g.steps (length g.events) → t.steps + g.steps < 2 ^ 64 → t.events + length g.events < 2 ^ 64 → IsGone t g
+  gone s ample turns steps events = record {
     steps = steps;
     events = events;
     room = let k : M ≤ t.room = cut_room in omega (arith, k, made_is);
-    made = λ s. made s;
-    rest = λ s f. rest_told s;
+    made = made s;
+    rest = λ f. rest_told s;
+    turned = (b, subst (λ c. Turns (part_seen t) t.steps t.events b t.room g.steps (length g.events) c) (sym ample) turns);
   }
     where
       cut_room : M ≤ t.room
@@ -148,20 +149,21 @@ module _ (t : TurnView) (g : Gone) (b reaches : ℕ) (L : List (ℕ × Event)) (
 abbrev pub starved : Gone
 starved = record { steps = 0; events = []; starved = true; rest = None }
 
-pub starved_gone : (t : TurnView) → t.steps < 2 ^ 64 → t.events < 2 ^ 64 → IsGone t starved
-starved_gone t steps events = record {
+pub starved_turns : (t : TurnView) (b : ℕ) → 0 < t.room → Starts t → Turns (part_seen t) t.steps t.events b t.room 0 0 true
+starved_turns t b room s = starved_at_start (part_seen t) t.steps t.events b t.room room s.more s.later
+
+pub starved_gone : (t : TurnView) → 0 < t.room → Starts t → t.steps < 2 ^ 64 → t.events < 2 ^ 64 → IsGone t starved
+starved_gone t some s steps events = record {
   steps = (let i : t.steps + 0 ≡ t.steps = omega arith in omega (arith, steps, i));
   events = (let i : t.events + 0 ≡ t.events = omega arith in omega (arith, events, i));
   room = omega arith;
-  made = λ s. sym (drop-take t.events 0 (part_seen t).events);
-  rest = λ s f. absurd (differ f);
+  made = sym (drop-take t.events 0 (part_seen t).events);
+  rest = λ f. absurd (differ f);
+  turned = (0, starved_turns t 0 some s);
 }
   where
     differ : true ≡ false → ⊥
     differ e = cc
-
-pub starved_turns : (t : TurnView) (b : ℕ) → 0 < t.room → Starts t → Turns (part_seen t) t.steps t.events b t.room 0 0 true
-starved_turns t b room s = starved_at_start (part_seen t) t.steps t.events b t.room room s.more s.later
 
 -- what a turn has made isn't nothing
 pub moves : (p : Part) (n e b r : ℕ) (g : Gone) (steps events : ℕ) → steps ≡ g.steps → events ≡ (if g.starved then length g.events + 1 else length g.events) → Turns p n e b r g.steps (length g.events) g.starved → (0 < steps) ⊎ (0 < events)

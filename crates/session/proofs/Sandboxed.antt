@@ -30,6 +30,6 @@ not_refused (after_next c f e) = not_refused f
 not_refused (after_respond t f e) = not_refused f
 
 pub turns_start_well : TurnsStartWell
-turns_start_well cs s keeps budget es l q e =
-    let h : IsOn (spec_of cs s) (kept_programs_resolve cs s keeps) q _ _ = running (spec_of cs s) (kept_programs_resolve cs s keeps) budget es l q e in
+turns_start_well cs s keeps es l q e =
+    let h : IsOn (spec_of cs s) (kept_programs_resolve cs s keeps) q _ _ = running (spec_of cs s) (kept_programs_resolve cs s keeps) es l q e in
     record { more = h.more; before = h.before; later = h.later; inside = asked_stay_inside cs s q.asked keeps (not_refused h.fitting) q.requests }

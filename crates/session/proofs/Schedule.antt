@@ -16,7 +16,7 @@ use Rattle.event_core.specs.Laws.{Begins}
 use Rattle.event_core.proofs.Parts.{begins_trans}
 use Rattle.session.specs.After as state
 use Rattle.session.specs.After.{without, State, Idle, Running, Ended, Pengine, waiting, emits, ends, begins, fits, first_consumed, consumes_now, settled, Entry, Sent, Pulled, Abort, Destroy, Taken, Given, rest_at, advances, turned_at, aborted_at, destroyed_at, struck, handed_out, entered, after_entry, after, made, most_waiting}
-use Rattle.session.specs.Legal.{IsRunning, IsLive, TurnsAt, IsAllowed, IsLegal, act_of, acts}
+use Rattle.session.specs.Legal.{IsRunning, IsLive, TurnsAt, IsAllowed, ArePossible, act_of, acts}
 use Rattle.session.specs.Laws.{IsStill, Gives}
 use Rattle.event_core.proofs.Reading.{reads_all_grows, reads_append, reads_one, reads_none, reads_closed, gives_some, gives_whole, Rests, all_stays, stays, Below, gives_on, all_on, gives_grows}
 
@@ -398,7 +398,7 @@ entry_enters spec budget (Pulled m) p rs c x l h = record {
   agrees = record { before = h.before; later = h.later; split = h.split; stands = same h.stands };
 }
   where
-    same : (v : Stands spec h.later (c + length h.before) p (reads spec h.before x)) → Stands spec h.later (c + length h.before) (record p { pulled = suc p.pulled }) (reads spec h.before x)
+    same : (v : Stands spec h.later (c + length h.before) p (reads spec h.before x)) → Stands spec h.later (c + length h.before) (record p { pulled = p.pulled + m }) (reads spec h.before x)
     same v = record { here = v.here; below = v.below; sound = v.sound; turn = v.turn; dropped = v.dropped; split = v.split; only_ended = v.only_ended; count = v.count }
 entry_enters spec budget Abort p rs c x l h = record {
   still = [];
@@ -481,19 +481,19 @@ now_all spec rs c x p h i m =
     go y (state.More q) ds o i s a g = rw (o, reads_none) (ap (λ (z : Reading). z.emitted) (sym a ∙ ap (gives_all spec) g ∙ rests_here spec (state.More q) p.events p.emitted refl s))
     go y (state.Prompting q) ds o i s a g = rw (o, reads_none) (ap (λ (z : Reading). z.emitted) (sym a ∙ ap (gives_all spec) g ∙ rests_here spec (state.Prompting q) p.events p.emitted refl s))
 
-schedule_from : (spec : Spec) → Lively spec → (budget : ℕ) (es : List Entry) (rs : List Request) (c : ℕ) (x : Reading) (p : Pengine) → IsLegal spec budget es p → Agrees spec rs c x p → Gives (after spec es p) (full_from spec (acts spec es p) rs c x)
-unfolding full_from after acts IsLegal
-schedule_from spec law budget [] rs c x p l h = record { begins = now_begins spec rs c x p h; whole = λ i m. now_all spec rs c x p h i m }
-schedule_from spec law budget (e ∷ es) rs c x p l h =
-    let t : Enters spec e p rs c x = entry_enters spec budget e p rs c x l.0 h in
+schedule_from : (spec : Spec) → Lively spec → (es : List Entry) (rs : List Request) (c : ℕ) (x : Reading) (p : Pengine) → ArePossible spec es p → Agrees spec rs c x p → Gives (after spec es p) (full_from spec (acts spec es p) rs c x)
+unfolding full_from after acts ArePossible
+schedule_from spec law [] rs c x p l h = record { begins = now_begins spec rs c x p h; whole = λ i m. now_all spec rs c x p h i m }
+schedule_from spec law (e ∷ es) rs c x p l h =
+    let t : Enters spec e p rs c x = entry_enters spec l.0.0 e p rs c x l.0.1 h in
     let q : Pengine = entered spec e p in
     rw (t.read (acts spec es (after_entry spec e p)))
-    (schedule_from spec law budget es t.still t.done t.reading (after_entry spec e p) l.1 (settle_agrees spec law (length q.mailbox) t.still t.done t.reading q t.agrees))
+    (schedule_from spec law es t.still t.done t.reading (after_entry spec e p) l.1 (settle_agrees spec law (length q.mailbox) t.still t.done t.reading q t.agrees))
 
 made_agrees : (spec : Spec) → Agrees spec [] 0 (at Free (event.Create ∷ [])) made
 unfolding reads
 made_agrees spec = record { before = []; later = []; split = refl; stands = record { here = refl; below = tt; sound = tt; turn = refl; dropped = []; split = refl; only_ended = refl; count = refl } }
 
--- For every legal list of entries, the events emitted begin the list that resolution defines for its acts, and are all of it where the pengine doesn't run and its mailbox is empty.
-pub schedule : (spec : Spec) → Lively spec → (budget : ℕ) (es : List Entry) → IsLegal spec budget es made → Gives (after spec es made) (full spec (acts spec es made))
-schedule spec law budget es l = schedule_from spec law budget es [] 0 (at Free (event.Create ∷ [])) made l (made_agrees spec)
+-- For every list of entries that a pengine can have, the events emitted begin the list that resolution defines for its acts, and are all of it where the pengine doesn't run and its mailbox is empty.
+pub schedule : (spec : Spec) → Lively spec → (es : List Entry) → ArePossible spec es made → Gives (after spec es made) (full spec (acts spec es made))
+schedule spec law es l = schedule_from spec law es [] 0 (at Free (event.Create ∷ [])) made l (made_agrees spec)

@@ -1,7 +1,7 @@
 -- What the code does to a pengine, and what the definition does, look the same.
-use Rattle.std.proofs.Common.{◌≡◌, ◌≢◌, ℕ, zero, suc, ◌+◌, ◌-◌, ◌≤◌, ◌<◌, ◌^◌, min, Bool, true, false, ◌&&◌, List, [], ◌∷◌, ◌++◌, map, length, drop, slice_get, nat_lt, nat_le, if◌then◌else◌, Option, Some, None, All, refl, ap, sym, subst, ◌∙◌, append_assoc, append-nil, length-append, IsTrue, arith}
+use Rattle.std.proofs.Common.{◌≡◌, ◌≢◌, ℕ, zero, suc, ◌+◌, ◌-◌, ◌≤◌, ◌<◌, ◌^◌, min, Bool, true, false, ◌&&◌, List, [], ◌∷◌, ◌++◌, map, length, take, drop, slice_get, nat_lt, nat_le, if◌then◌else◌, Option, Some, None, All, refl, ap, sym, subst, ◌∙◌, append_assoc, append-nil, length-append, length-take, IsTrue, arith}
 use Rattle.std.proofs.Math.Seq.{drop-append_seam}
-use Rattle.std.proofs.lemmas.List.{map-append, length-map}
+use Rattle.std.proofs.lemmas.List.{map-append, length-map, take-append-drop}
 use Rattle.std.proofs.lemmas.List.Elements.{All-push, All-nil, All-rest, All-head, All-drop}
 use Rattle.std.proofs.lemmas.Bool.{ltb-true, lt-ltb}
 use Rattle.circular_buffer.specs.Buffer.{buffer}
@@ -32,7 +32,7 @@ use Rattle.session.specs.Views.{Look, Idle, Running, Out, More, Prompting, Ended
 use Rattle.event_core.specs.declared.spec.Spec as wanted
 use Rattle.session.specs.Begun.{first_of, IsBegun}
 use Rattle.session.specs.Answers.{is_turn, takes, takes_at, last_of}
-use Rattle.session.specs.Kept.{query_of, look_of, requests_of, view_of, resting, rests, rests_now, is_busy, MayWait, further_of, Refuses, IsLetter, IsSound, IsBack, Tells, Turns, says, closed}
+use Rattle.session.specs.Kept.{query_of, look_of, requests_of, view_of, resting, rests, rests_now, is_busy, MayWait, further_of, Refuses, IsLetter, IsSound, IsBack, Tells, TakesBack, says, closed}
 
 -- one event more
 pub said : (v : View) (p : Pengine) (e : Event) → IsKept v p → IsKept (record v { queue = v.queue ++ e ∷ [] }) (emits e p)
@@ -584,7 +584,7 @@ turned_is spec q g s p e = ap (λ z. turned_at spec g.steps (length g.events) g.
 back_kept : (a : Automaton) (p : Pengine) → IsKept (view_of a) p → IsKept (view_of a) (record p { turn = None })
 back_kept a p h = moved (view_of a) p (look_of a.state) p.state None h
 
-pub starved_turns : (a : Automaton) (q : kept.Query) (g : kept_turn.Gone) → g.starved ≡ true → Turns q g (view_of a) (view_of (closed a.settings.destroys (says event.Memory (advanced g a))))
+pub starved_turns : (a : Automaton) (q : kept.Query) (g : kept_turn.Gone) → g.starved ≡ true → TakesBack q g (view_of a) (view_of (closed a.settings.destroys (says event.Memory (advanced g a))))
 starved_turns a q g e = record {
   program = closed_clauses a.settings.destroys (says event.Memory (advanced g a));
   settings = closed_settings a.settings.destroys (says event.Memory (advanced g a));
@@ -627,7 +627,7 @@ module _ (a : Automaton) (q : kept.Query) (g : kept_turn.Gone) (f : g.starved �
   back_seen : (p : Pengine) → Tells (spec_seen (view_of a)) (query_of q) a.events g → IsSeen (view_of a) p → IsKept (view_of (advanced g a)) (back p)
   back_seen p t h = gave_kept (spec_seen (view_of a)) (query_of q) g a (record p { turn = None }) t (back_kept a p h.kept)
 
-  pub runs_on : g.rest ≡ None → Turns q g (view_of a) (view_of (record (advanced g a) { state = at.Running q }))
+  pub runs_on : g.rest ≡ None → TakesBack q g (view_of a) (view_of (record (advanced g a) { state = at.Running q }))
   runs_on e = record {
     program = refl;
     settings = refl;
@@ -635,7 +635,7 @@ module _ (a : Automaton) (q : kept.Query) (g : kept_turn.Gone) (f : g.starved �
         (record { look = (s, refl); kept = moved (view_of (advanced g a)) (back p) (Running (query_of q)) p.state None (back_seen p t h) });
   }
 
-  pub rests_more : g.rest ≡ Some rest.More → Turns q g (view_of a) (view_of (record (advanced g a) { state = at.More q }))
+  pub rests_more : g.rest ≡ Some rest.More → TakesBack q g (view_of a) (view_of (record (advanced g a) { state = at.More q }))
   rests_more e = record {
     program = refl;
     settings = refl;
@@ -643,7 +643,7 @@ module _ (a : Automaton) (q : kept.Query) (g : kept_turn.Gone) (f : g.starved �
         (record { look = (refl, refl); kept = moved (view_of (advanced g a)) (back p) (More (query_of q)) (state.More (query_of q)) None (back_seen p t h) });
   }
 
-  pub rests_prompting : g.rest ≡ Some rest.Prompting → Turns q g (view_of a) (view_of (record (advanced g a) { state = at.Prompting q }))
+  pub rests_prompting : g.rest ≡ Some rest.Prompting → TakesBack q g (view_of a) (view_of (record (advanced g a) { state = at.Prompting q }))
   rests_prompting e = record {
     program = refl;
     settings = refl;
@@ -651,7 +651,7 @@ module _ (a : Automaton) (q : kept.Query) (g : kept_turn.Gone) (f : g.starved �
         (record { look = (refl, refl); kept = moved (view_of (advanced g a)) (back p) (Prompting (query_of q)) (state.Prompting (query_of q)) None (back_seen p t h) });
   }
 
-  pub over : g.rest ≡ Some rest.Over → Turns q g (view_of a) (view_of (closed a.settings.destroys (advanced g a)))
+  pub over : g.rest ≡ Some rest.Over → TakesBack q g (view_of a) (view_of (closed a.settings.destroys (advanced g a)))
   over e = record {
     program = closed_clauses a.settings.destroys (advanced g a);
     settings = closed_settings a.settings.destroys (advanced g a);
@@ -675,6 +675,26 @@ one_more k = omega arith
 
 pub pulled_does : (a : Automaton) (e : Event) (es : List Event) (w : View) → a.queue.items ≡ e ∷ es → Settles (view_of (record a { queue = buffer es a.queue.capacity; pulled = min (a.pulled + 1) (2 ^ 64 - 1) })) w → Enters (Pulled 1) (view_of a) w
 pulled_does a e es w i d = record { program = d.program; settings = d.settings; seen = λ p h. subst (λ (k : ℕ). IsSeen w (settled (spec_seen (view_of a)) (length p.mailbox) (record p { pulled = k }))) (one_more p.pulled) (d.seen (record p { pulled = suc p.pulled }) (pulled_seen a e es p i h)) }
+
+-- several events are pulled together
+pulled_many_seen : (a : Automaton) (k : ℕ) (p : Pengine) → k ≤ length a.queue.items → IsSeen (view_of a) p → IsSeen (view_of (record a { queue = buffer (drop k a.queue.items) a.queue.capacity; pulled = min (a.pulled + k) (2 ^ 64 - 1) })) (record p { pulled = p.pulled + k })
+pulled_many_seen a k p l h = record {
+  look = h.look;
+  kept = record {
+    mailbox = h.kept.mailbox;
+    number = h.kept.number;
+    steps = h.kept.steps;
+    events = h.kept.events;
+    pulled = (let m : a.pulled ≡ min p.pulled (2 ^ 64 - 1) = h.kept.pulled in omega (arith, m));
+    before = h.kept.before ++ take k a.queue.items;
+    handed = (let m : length (h.kept.before ++ take k a.queue.items) ≡ length h.kept.before + length (take k a.queue.items) = length-append h.kept.before (take k a.queue.items) in
+        let n : length (take k a.queue.items) ≡ min k (length a.queue.items) = length-take k a.queue.items in omega (arith, m, n, l, h.kept.handed));
+    emitted = h.kept.emitted ∙ ap (λ (x : List Event). h.kept.before ++ x) (sym (take-append-drop k a.queue.items)) ∙ sym (append_assoc h.kept.before (take k a.queue.items) (drop k a.queue.items));
+  };
+}
+
+pub pulled_many_does : (a : Automaton) (k : ℕ) (w : View) → k ≤ length a.queue.items → Settles (view_of (record a { queue = buffer (drop k a.queue.items) a.queue.capacity; pulled = min (a.pulled + k) (2 ^ 64 - 1) })) w → Enters (Pulled k) (view_of a) w
+pulled_many_does a k w l d = record { program = d.program; settings = d.settings; seen = λ p h. d.seen (record p { pulled = p.pulled + k }) (pulled_many_seen a k p l h) }
 
 abbrev pub cleared : Automaton → Automaton
 cleared a = record a { mailbox = buffer [] a.mailbox.capacity }

@@ -62,5 +62,9 @@ abbrev pub is_present : Look → (number of : ℕ) → Bool
 is_present (Out room further) n k = n == k
 is_present l n k = false
 
+abbrev pub is_kept : Given → Bool
+is_kept given.Kept = true
+is_kept given.Dropped = false
+
 abbrev pub gives : View → (of : ℕ) → Given
 gives v k = if is_present v.look v.number k then given.Kept else given.Dropped

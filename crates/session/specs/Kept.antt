@@ -151,7 +151,7 @@ pub record Tells (spec : Spec) (q : Query) (k : ℕ) (g : kept_turn.Gone) : Type
   pub rest : g.starved ≡ false → g.rest ≡ (if nat_le (length (events_of spec q)) (k + length g.events) then Some (part_of spec q).rest else None)
 
 -- the turn was kept, before requests are consumed
-pub record Turns (q : kept.Query) (g : kept_turn.Gone) (v w : View) : Type 0 where
+pub record TakesBack (q : kept.Query) (g : kept_turn.Gone) (v w : View) : Type 0 where
   pub program : w.program ≡ v.program
   pub settings : w.settings ≡ v.settings
   pub seen : (p : Pengine) → p.state ≡ after.Running (query_of q) → Tells (spec_seen v) (query_of q) v.events g → IsSeen v p → IsSeen w (turned_at (spec_seen v) g.steps (length g.events) g.starved p.state (record p { turn = None }))

@@ -13,7 +13,7 @@ use Rattle.event_core.specs.Laws.{Begins, StaysInside, replying}
 use Rattle.event_core.specs.Full.{Spec, Query, full}
 use Rattle.event_core.specs.Standing.{spec_of}
 use Rattle.session.specs.After.{State, Running, Pengine, Entry, after, made, most_waiting, most_requests, waiting}
-use Rattle.session.specs.Legal.{IsLegal, IsRunning, Holds, acts}
+use Rattle.session.specs.Legal.{ArePossible, IsRunning, Holds, acts}
 use Rattle.session.specs.TurnsKept.{IsAhead}
 
 -- The events of a query are those that resolution gives, and no goal that the sandbox passes reaches outside.
@@ -33,7 +33,7 @@ KeptProgramsResolve = (cs : Loaded) (s : Settings) → KeepsSandbox cs → IsRes
 -- A turn starts as it is to be, over a program that keeps to the sandbox: the query that runs has an event to come, those before came within its steps, none of those to come does, and it reaches nothing outside.
 abbrev pub TurnsStartWell : Type 0
 TurnsStartWell =
-    (cs : Loaded) (s : Settings) → KeepsSandbox cs → (budget : ℕ) (es : List Entry) → IsLegal (spec_of cs s) budget es made →
+    (cs : Loaded) (s : Settings) → KeepsSandbox cs → (es : List Entry) → ArePossible (spec_of cs s) es made →
     (q : Query) → (after (spec_of cs s) es made).state ≡ Running q → IsAhead cs s q (after (spec_of cs s) es made).steps (after (spec_of cs s) es made).events
 
 -- nothing runs
@@ -49,7 +49,7 @@ pub record Gives (p : Pengine) (all : List Event) : Type 0 where
 -- The schedule doesn't matter: however requests, turns, aborts and wants of memory fall, the events are those of the list that resolution defines for the requests and strikes alone.
 abbrev pub ScheduleDoesntMatter : Type 0
 ScheduleDoesntMatter =
-    (spec : Spec) → IsResolution spec → (budget : ℕ) (es : List Entry) → IsLegal spec budget es made →
+    (spec : Spec) → IsResolution spec → (es : List Entry) → ArePossible spec es made →
     Gives (after spec es made) (full spec (acts spec es made))
 
 -- At most 64 requests wait, and 66 events.
@@ -58,7 +58,7 @@ pub record HasRoom (p : Pengine) : Type 0 where
   pub queue : waiting p ≤ most_waiting + 2
 
 abbrev pub NoMoreWait : Type 0
-NoMoreWait = (spec : Spec) (budget : ℕ) (es : List Entry) → IsLegal spec budget es made → HasRoom (after spec es made)
+NoMoreWait = (spec : Spec) (es : List Entry) → ArePossible spec es made → HasRoom (after spec es made)
 
 -- A turn that is out and will be dropped is of an earlier query than the one that runs. So the number of its query tells whether a turn is kept.
 abbrev pub LostTurnsAreOlder : Type 0

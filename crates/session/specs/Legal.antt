@@ -37,6 +37,11 @@ unfoldable pub IsLegal : Spec → (budget : ℕ) → List Entry → Pengine → 
 IsLegal spec budget [] p = Unit {0}
 IsLegal spec budget (e ∷ es) p = IsAllowed spec budget e p × IsLegal spec budget es (after_entry spec e p)
 
+-- The same where each turn has a budget of its own.
+unfoldable pub ArePossible : Spec → List Entry → Pengine → Type 0
+ArePossible spec [] p = Unit {0}
+ArePossible spec (e ∷ es) p = ((budget : ℕ) × IsAllowed spec budget e p) × ArePossible spec es (after_entry spec e p)
+
 -- An abort and a destroy strike with the steps and events that the latest query has after its last kept turn, a want of memory with those of the turn itself.
 abbrev pub act_of : Entry → Pengine → List Act → List Act
 act_of (Sent r) p more = Sends r ∷ more

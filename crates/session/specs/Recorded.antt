@@ -1,19 +1,11 @@
 -- A pengine with the entries that it has had: what a session looks like, and whose turns are out.
-use Rattle.std.specs.Prelude.{◌≡◌, ℕ, Bool, true, false, List, [], ◌∷◌, ◌++◌, length, Option, Some, None}
-use Rattle.program.specs.Loaded.{Loaded}
+use Rattle.std.specs.Prelude.{◌≡◌, ℕ, Bool, List, [], ◌∷◌, ◌++◌, length, Some}
 use Rattle.sandbox_walk.specs.Keeping.{KeepsSandbox}
-use Rattle.event_core.specs.Full.{Spec, part_of}
-use Rattle.session.specs.After.{State, Running, Pengine, Entry, Sent, Pulled, Abort, Destroy, Taken, Given, after, after_entry, made}
-use Rattle.session.specs.Legal.{IsAllowed, Holds}
-use Rattle.session.specs.Turns.{Turns}
+use Rattle.session.specs.After.{Running, Pengine, Entry, Taken, Given, after, made}
+use Rattle.session.specs.Legal.{ArePossible, Holds}
 use Rattle.session.specs.Views.{View, Gone, TurnView, IsSeen, spec_seen}
 
--- Each entry is allowed after those before it, each turn with a budget of its own.
-unfoldable pub ArePossible : Spec → List Entry → Pengine → Type 0
-ArePossible spec [] p = Unit {0}
-ArePossible spec (e ∷ es) p = ((budget : ℕ) × IsAllowed spec budget e p) × ArePossible spec es (after_entry spec e p)
-
--- The pengine of these entries, over the program and settings of the view.
+-- the pengine of these entries, over the program and settings of the view
 abbrev pub stood : View → List Entry → Pengine
 stood v es = after (spec_seen v) es made
 
@@ -34,7 +26,7 @@ pub record Lengthens (es : List Entry) (v w : View) : Type 0 where
   pub settings : w.settings ≡ v.settings
   pub recorded : (before : List Entry) → IsRecord before v → IsRecord (before ++ es) w
 
--- The turn is that of the query which runs in p, or its query was broken off since it was taken.
+-- The turn is that of the query which runs in p.
 pub record IsOwn (p : Pengine) (t : TurnView) (room : ℕ) : Type 0 where
   pub is_out : p.turn ≡ Some room
   pub query : p.state ≡ Running t.query
@@ -43,11 +35,31 @@ pub record IsOwn (p : Pengine) (t : TurnView) (room : ℕ) : Type 0 where
   pub events : t.events ≡ p.events
   pub has_room : t.room ≡ room
 
--- The turn is one of the session's, and has gone, after entries that the session can have had. Each query that was broken off is older than the one that runs, so the number tells which of the two it is.
-pub data IsTurnAt (v : View) (es : List Entry) (t : TurnView) : Type 0 where
-  present : (room : ℕ) → IsOwn (stood v es) t room → IsTurnAt v es t
-  lost : Holds t.number (stood v es).lost → IsTurnAt v es t
+-- The turn is out in p: it is that of the query which runs, or its query was broken off since it was taken. Each query that was broken off is older than the one that runs, so the number tells which of the two it is.
+pub data IsOut (p : Pengine) (t : TurnView) : Type 0 where
+  present : (room : ℕ) → IsOwn p t room → IsOut p t
+  lost : Holds t.number p.lost → IsOut p t
 
--- the entry of a turn that has gone
+-- The turn was taken from this session and is out.
+pub record IsTaken (v : View) (t : TurnView) : Type 0 where
+  pub program : t.program ≡ v.program
+  pub settings : t.settings ≡ v.settings
+  pub entries : List Entry
+  pub recorded : IsRecord entries v
+  pub out : IsOut (stood v entries) t
+
+-- The turn was taken just now: after whatever entries the session had before, and its taking, the turn is out.
+pub record Takes (v : View) (t : TurnView) (w : View) : Type 0 where
+  pub lengthens : Lengthens (Taken ∷ []) v w
+  pub taken : IsTaken w t
+  pub out : (before : List Entry) → IsRecord before v → IsOut (stood w (before ++ Taken ∷ [])) t
+
+-- the entry of a turn that has gone and is given back
 abbrev pub given_back : TurnView → Gone → (kept : Bool) → Entry
 given_back t g kept = Given t.number g.steps (length g.events) g.starved kept
+
+-- A turn was given back: whatever entries the session had before, after which this turn was out, it has the turn's after them now.
+pub record GivesBack (v : View) (t : TurnView) (g : Gone) (kept : Bool) (w : View) : Type 0 where
+  pub program : w.program ≡ v.program
+  pub settings : w.settings ≡ v.settings
+  pub recorded : (before : List Entry) → IsRecord before v → IsOut (stood v before) t → IsRecord (before ++ given_back t g kept ∷ []) w

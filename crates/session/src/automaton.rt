@@ -5,18 +5,19 @@ ghost use Rattle.event_core.specs.declared.rest.Rest.TheVariants as ending;
 ghost use Rattle.circular_buffer.specs.Buffer.{buffer};
 ghost use Rattle.session.specs.declared.state.State.TheVariants as at;
 ghost use Rattle.session.specs.declared.answers.Given.TheVariants as given;
-ghost use Rattle.session.specs.TurnsKept.{Keeps};
+ghost use Rattle.event_core.specs.Full as asked;
+ghost use Rattle.session.specs.TurnsKept.{Starts, Keeps};
 ghost use Rattle.session.specs.Views as view;
 ghost use Rattle.session.specs.After.{begins, fits, first_consumed, aborted_at, struck, settled, made, Sent, Pulled, Abort, Given as GivenBack};
 ghost use Rattle.session.specs.Answers.{is_ended, takes, is_turn, last_of, gives};
 ghost use Rattle.session.specs.Views.{spec_seen, turn_at, taken, IsSeen, Does, Enters, IsTurnOf};
-ghost use Rattle.session.specs.Kept.{query_of, look_of, view_of, resting, rests, rests_now, is_busy, further_of, IsLetter, IsSound, IsBack, Turns, says, closed};
+ghost use Rattle.session.specs.Kept.{query_of, look_of, view_of, resting, rests, rests_now, is_busy, further_of, IsLetter, IsSound, IsBack, TakesBack, says, closed};
 
 use crate::answers::Given;
 use crate::letter::Letter;
 use crate::node::Node;
 use crate::query::Query;
-use crate::ring::put;
+use crate::ring::{move_first, put};
 use crate::state::State;
 use crate::took::Took;
 use crate::turn::{Gone, Turn};
@@ -338,22 +339,6 @@ impl Automaton {
         Some((number, event))
     }
 
-    // Moves the events that wait, at most so many, to a list that has places for them.
-    fn move_out(&mut self, max: usize, events: &mut HeapCircularBuffer<Event>)
-        requires none { events.old.items ≡ [] }
-        requires places { max ≤ events.old.capacity }
-        ensures moved { events.new ≡ buffer (take max self.old.queue.items) events.old.capacity }
-        ensures left { self.new ≡ record self.old { queue = buffer (drop max self.old.queue.items) self.old.queue.capacity; pulled = min (self.old.pulled + min max (length self.old.queue.items)) (2 ^ 64 - 1) } }
-    {
-        for _ in 0..max {
-            let Some(event) = self.queue.pop_front() else {
-                return;
-            };
-            self.pulled = self.pulled.saturating_add(1);
-            put(events, event);
-        }
-    }
-
     // The events that wait are handed out together, at most so many; for want of memory the pengine is as before.
     pub(crate) fn pull_many(&mut self, max: usize) -> Result<Option<Waiting>, Memory>
         requires sound { IsSound self.old }
@@ -370,7 +355,9 @@ impl Automaton {
             return Ok(None);
         }
         let first = self.pulled;
-        self.move_out(max, &mut events);
+        let many = max.min(self.queue.len());
+        move_first(many, &mut self.queue, &mut events);
+        self.pulled = first.saturating_add(many as u64);
         self.settle();
         Ok(Some(Waiting::new(first, events)))
     }
@@ -395,6 +382,7 @@ impl Automaton {
     fn hand_out(&mut self, query: Query) -> Turn
         requires room { length self.old.queue.items < 64 }
         requires program { query.program.value ≡ self.old.program.value }
+        requires starts { Starts (turn_at (view_of self.old) (query_of query)) }
         ensures turn { result ≡ turn_at (view_of self.old) (query_of query) }
         ensures state { self.new ≡ record self.old { state = at.Out (64 - length self.old.queue.items) (length query.requests) } }
     {
@@ -415,7 +403,8 @@ impl Automaton {
 
     // Gives a turn, where the query runs, none of its turns is out and the queue isn't full.
     pub(crate) fn take(&mut self) -> Took
-        requires { IsSound self.old }
+        requires sound { IsSound self.old }
+        requires starts { (q : asked.Query) → look_of self.old.state ≡ view.Running q → Starts (turn_at (view_of self.old) q) }
         ensures sound { IsSound self.new }
         ensures answer { result ≡ takes (view_of self.old) }
         ensures taken { IsTrue (is_turn result) → view_of self.new ≡ taken (view_of self.old) }
@@ -455,7 +444,7 @@ impl Automaton {
         requires sound { IsSound self.old }
         requires back { IsBack self.old query gone }
         ensures sound { IsSound self.new }
-        ensures turns { Turns query gone (view_of self.old) (view_of self.new) }
+        ensures turns { TakesBack query gone (view_of self.old) (view_of self.new) }
     {
         let Gone {
             steps,

@@ -1,11 +1,12 @@
-ghost use Rattle.std.specs.Prelude.{◌≡◌, ◌≢◌, ◌≤◌, ◌<◌, min, [], ◌++◌, length, drop, IfOk, OnOk, OnErr, IsTrue, ◌↔◌, false, Err, Some};
+ghost use Rattle.std.specs.Prelude.{◌≡◌, ◌≢◌, ◌≤◌, ◌<◌, min, [], ◌∷◌, ◌++◌, length, drop, IfOk, OnOk, OnErr, ◌↔◌, false, Err, Some};
 ghost use Rattle.session.specs.declared.answers.SendFault.TheVariants as fault;
-ghost use Rattle.session.specs.After.{Sent, Pulled as Pull, Abort, Destroy, Taken, Given as GivenBack, Pengine, after_entry, most_requests};
-ghost use Rattle.session.specs.Answers.{is_ended, is_gone, pulls, pulls_many, takes, is_turn, ready, last_of, gives};
-ghost use Rattle.session.specs.Views.{Ended, IsSeen, Enters, taken, spec_seen, Gone, IsTurnOf};
-ghost use Rattle.session.specs.TurnsKept.{Keeps};
-ghost use Rattle.session.specs.declared.answers.Given.TheVariants as given;
-ghost use Rattle.session.specs.Begun.{IsBegun};
+ghost use Rattle.sandbox_walk.specs.Keeping.{KeepsSandbox};
+ghost use Rattle.session.specs.After.{Sent, Pulled as Pull, Abort, Destroy, Pengine, after_entry, most_requests};
+ghost use Rattle.session.specs.Answers.{is_ended, is_gone, pulls, pulls_many, takes, is_turn, ready, last_of, gives, is_kept};
+ghost use Rattle.session.specs.Views.{Ended, IsSeen, taken, spec_seen, Gone, TurnView};
+ghost use Rattle.session.specs.Recorded.{IsRecord, IsRecorded, Lengthens, Takes, IsTaken, GivesBack};
+ghost use Rattle.session.specs.declared.took.Took.TheVariants as took;
+ghost use Rattle.session.specs.Begun.{IsBegun, first_of};
 
 use crate::answers::{Given, Pulled, PulledMany, SendFault};
 use crate::automaton::{Automaton, MOST_REQUESTS, MOST_WAITING};
@@ -34,17 +35,20 @@ impl Model for Session {
     ghost coded = { Prim.hlevel (codes, tree_code) };
 
     ghost use Rattle.session.specs.Kept.{view_of, IsSound};
+    ghost use Rattle.session.specs.Recorded.{IsRecorded};
 
     ghost view = { λ s. view_of s.automaton };
 
-    ghost invariant = { λ s. IsSound s.automaton };
+    ghost invariant = { λ s. IsSound s.automaton × IsRecorded (view_of s.automaton) };
 }
 
 impl Session {
     /// A pengine that was just made, with room for 64 requests and 66 events. Its event 0, `create`, is this answer. The first
     /// query, where there is one, is its first request.
     pub fn create(alloc: Global, spec: Spec) -> Result<Session, Memory>
-        ensures { IfOk result (IsBegun spec) }
+        requires keeps { KeepsSandbox spec.program.value }
+        ensures begun { IfOk result (IsBegun spec) }
+        ensures recorded { IfOk result (IsRecord (first_of spec.ask)) }
     {
         let Spec {
             program,
@@ -65,7 +69,7 @@ impl Session {
     /// Accepts a request, which is consumed when the pengine rests. It is refused where the pengine has ended, then where 64 requests
     /// wait, and then for want of memory, and the pengine is as before.
     pub fn send(&mut self, request: Request) -> Result<(), SendFault>
-        ensures sent { OnOk result (Enters (Sent request) self.old self.new) }
+        ensures sent { OnOk result (Lengthens (Sent request ∷ []) self.old self.new) }
         ensures refused { OnErr result (self.new ≡ self.old) }
         ensures ended { (result ≡ Err fault.Ended) ↔ (self.old.look ≡ Ended) }
         ensures full { (result ≡ Err fault.MailboxFull) ↔ ((self.old.look ≢ Ended) × (most_requests ≤ length self.old.mailbox)) }
@@ -85,7 +89,7 @@ impl Session {
     /// Hands out the next event, where one waits.
     pub fn pull(&mut self) -> Pulled
         ensures answer { result ≡ pulls self.old }
-        ensures pulled { self.old.queue ≢ [] → Enters (Pull 1) self.old self.new }
+        ensures pulled { self.old.queue ≢ [] → Lengthens (Pull 1 ∷ []) self.old self.new }
         ensures none { self.old.queue ≡ [] → self.new ≡ self.old }
     {
         match self.automaton.pull() {
@@ -106,7 +110,7 @@ impl Session {
         requires some { 0 < max }
         requires most { max ≤ 64 }
         ensures answer { IfOk result (λ r. r ≡ pulls_many max self.old) }
-        ensures pulled { OnOk result (self.old.queue ≢ [] → Enters (Pull (min max (length self.old.queue))) self.old self.new) }
+        ensures pulled { OnOk result (self.old.queue ≢ [] → Lengthens (Pull (min max (length self.old.queue)) ∷ []) self.old self.new) }
         ensures none { self.old.queue ≡ [] → self.new ≡ self.old }
         ensures refused { OnErr result (self.new ≡ self.old) }
     {
@@ -125,7 +129,7 @@ impl Session {
     /// Gives a turn of the query that runs, to be run outside and given back.
     pub fn take(&mut self) -> Took
         ensures answer { result ≡ takes self.old }
-        ensures taken { IsTrue (is_turn result) → (self.new ≡ taken self.old) × Enters Taken self.old self.new }
+        ensures taken { (t : TurnView) → result ≡ took.Turn t → (self.new ≡ taken self.old) × Takes self.old t self.new }
         ensures none { is_turn result ≡ false → self.new ≡ self.old }
     {
         self.automaton.take()
@@ -133,10 +137,10 @@ impl Session {
 
     /// Takes back a turn that this session gave and that has gone: `Dropped` exactly where its query was broken off since.
     pub fn give(&mut self, turn: Turn) -> Given
-        requires { IsTurnOf self.old turn }
+        requires taken { IsTaken self.old turn }
+        requires gone { (g : Gone) × (turn.gone ≡ Some g) }
         ensures answer { result ≡ gives self.old turn.number }
-        ensures kept { (g : Gone) → result ≡ given.Kept → turn.gone ≡ Some g → Keeps self.old turn g self.new }
-        ensures dropped { (g : Gone) → result ≡ given.Dropped → turn.gone ≡ Some g → Enters (GivenBack turn.number g.steps (length g.events) g.starved false) self.old self.new }
+        ensures back { (g : Gone) → turn.gone ≡ Some g → GivesBack self.old turn g (is_kept result) self.new }
     {
         self.automaton.give(turn)
     }
@@ -144,7 +148,7 @@ impl Session {
     /// Breaks off the query that runs or rests, whose turn is then dropped, and drops the requests that wait.
     /// Outside of a query no event comes.
     pub fn abort(&mut self)
-        ensures { Enters Abort self.old self.new }
+        ensures { Lengthens (Abort ∷ []) self.old self.new }
     {
         self.automaton.abort();
     }
@@ -158,9 +162,10 @@ impl Session {
         self.automaton.destroy()
     }
 
-    /// Whether the pengine has ended.
+    /// Whether the pengine has ended. Every session is one that was made over a program which keeps to the sandbox, and had calls.
     pub fn ended(&self) -> bool
-        ensures { result ≡ is_ended self.now.look }
+        ensures answer { result ≡ is_ended self.now.look }
+        ensures recorded { IsRecorded self.now }
     {
         self.automaton.has_ended()
     }
