@@ -38,8 +38,8 @@ front_grows bytes others =
 -- what was looked at before, or has no end of a head
 pub none_after : (none : List ℕ → Type 0) → ((b : List ℕ) → ends_head b ≡ false → none b)
     → (f old new : List ℕ) → f ≡ old → none f → IsOpen old new → none new
-none_after none open f old new same n (inl kept) = subst none (same ∙ sym kept) n
-none_after none open f old new same n (inr ends) = open new ends
+none_after none unended f old new same n (inl kept) = subst none (same ∙ sym kept) n
+none_after none unended f old new same n (inr ends) = unended new ends
 
 module _ (none may : List ℕ → Type 0) (refused : List ℕ → Why → Type 0) where
   pub head_stops : (left : Option (List ℕ)) (bytes b : List ℕ) (e : Stop) → b ≡ bytes → length bytes < 16384 → IsAtEnd left
