@@ -22,7 +22,7 @@ impl Place {
     {
         match self {
             Place::Before => {
-                if byte == b'\n' || byte == b'\r' {
+                if byte == b'\r' || byte == b'\n' {
                     Place::Before
                 } else {
                     Place::Line

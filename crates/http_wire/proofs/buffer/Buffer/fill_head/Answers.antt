@@ -1,4 +1,4 @@
-use Rattle.std.proofs.Common.{◌≡◌, ◌<◌, ◌+◌, ◌-◌, ◌++◌, [], false, ℕ, List, length, take, drop, refl, sym, ap, ◌∙◌, subst, arith, length-append}
+use Rattle.std.proofs.Common.{◌≡◌, ◌<◌, ◌+◌, ◌-◌, ◌++◌, false, inl, inr, ℕ, List, length, take, drop, refl, sym, ap, ◌∙◌, subst, arith, length-append}
 use Rattle.std.proofs.lemmas.List.{take_all}
 use Rattle.std.proofs.Math.Seq.{drop-append_seam}
 use Rattle.http_wire.specs.declared.ending.Place.{Place}
@@ -35,6 +35,9 @@ pieces-init g c = record {
 
 pub returns-in_err-count-clause-reads : goal.returns-in_err-count-clause-reads
 returns-in_err-count-clause-reads g c = reads_on g.S.Source.left g.S.Source.faults g.S.Source.reads _ _ _ _ _ _ c.pieces.invariant.reads c.fill.ensures.reads
+
+pub returns-then-is_over-clause-reads : goal.returns-then-is_over-clause-reads
+returns-then-is_over-clause-reads g c = reads_on g.S.Source.left g.S.Source.faults g.S.Source.reads _ _ _ _ _ _ c.pieces.invariant.reads c.fill.ensures.reads
 
 pub pieces-preserved : goal.pieces-preserved
 pieces-preserved g c =
