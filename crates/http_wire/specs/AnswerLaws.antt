@@ -1,5 +1,5 @@
 -- A response's head ends in an empty line behind another line, so bytes without one bring none.
-use Rattle.std.proofs.Common.{◌≡◌, ◌∙◌, ◌++◌, false, ℕ, List, ◌∷◌, true≢false, ap, sym, append_assoc}
+use Rattle.std.proofs.Common.{◌≡◌, ◌∙◌, ◌++◌, false, ℕ, List, ◌∷◌, drop, true≢false, ap, sym, append_assoc}
 use Rattle.std.specs.List.{flat_map}
 use Rattle.httparse.specs.declared.spans.HeaderSpan.{HeaderSpan}
 use Rattle.httparse.specs.declared.spans.ResponseSpans.{ResponseSpans}
@@ -26,7 +26,7 @@ response_over h rest =
     ap (λ (l : List ℕ). places Before (l ++ rest)) parts
     ∙ ap (places Before) (regroup (print_blank h.blank) line (print_end h.line_end) section rest)
     ∙ blank_passed h.blank ((line ++ print_end h.line_end) ++ (section ++ rest))
-    ∙ section_over (line ++ print_end h.line_end) rest h.fields h.last (first_line 72 _ h.line_end tt)
+    ∙ section_over (line ++ print_end h.line_end) rest h.fields h.last (first_line 72 (drop 1 line) h.line_end tt)
 
 pub response_none_open : (b : List ℕ) → ends_head b ≡ false → HasNoResponse b
 response_none_open b unended h rest reads =
