@@ -6,7 +6,7 @@ use Rattle.http_wire.specs.declared.ending.Place.TheVariants.{Before, Line, Star
 
 -- the place behind one byte more; a CR leaves a line as empty as it is
 abbrev pub after : Place → ℕ → Place
-after Before b = if b == 10 || b == 13 then Before else Line
+after Before b = if b == 13 || b == 10 then Before else Line
 after Line b = if b == 10 then Start else Line
 after Start b = if b == 10 then Over else (if b == 13 then Start else Line)
 after Over b = Over

@@ -1,5 +1,6 @@
 -- A head ends in an empty line behind another line, so bytes without one bring none.
-use Rattle.std.proofs.Common.{◌≡◌, ◌∙◌, ◌++◌, ◌<◌, ◌==◌, ◌||◌, Bool, true, false, ⊥, ⊤, ℕ, List, [], ◌∷◌, length, true≢false, refl, ap, sym, subst, append_assoc, arith, cond}
+use Rattle.std.proofs.Common.{◌≡◌, ◌∙◌, ◌++◌, ◌<◌, ◌==◌, ◌||◌, Bool, true, false, ℕ, List, [], ◌∷◌, length, true≢false, refl, ap, sym, subst, append_assoc, arith, cond}
+use Rattle.std.specs.Prelude.{⊤}
 use Rattle.std.specs.List.{flat_map}
 use Rattle.httparse.specs.declared.spans.HeaderSpan.{HeaderSpan}
 use Rattle.httparse.specs.declared.spans.RequestSpans.{RequestSpans}
@@ -82,8 +83,7 @@ whole_line p bytes e begun = subst AtStart (sym (places_append p bytes (print_en
 
 field_ends : (p : Place) (f : Field) → AtStart p → AtStart (places p (print_field f))
 field_ends p f at =
-    subst (λ (l : List ℕ). AtStart (places p l)) (append_assoc f.name (58 ∷ f.raw) (print_end f.end))
-    (whole_line p (f.name ++ 58 ∷ f.raw) f.end (begun_behind p (f.name ++ 58 ∷ f.raw) (begun_at p at)))
+    whole_line p (f.name ++ 58 ∷ f.raw) f.end (begun_behind p (f.name ++ 58 ∷ f.raw) (begun_at p at))
 
 fields_end : (p : Place) (fields : List Field) → AtStart p → AtStart (places p (flat_map print_field fields))
 fields_end p [] at = at
@@ -126,8 +126,8 @@ method_line (b ∷ m) w e some all = first_line b (m ++ w) e (token_begins b (Al
 pub regroup : (k x e s rest : List ℕ) → (k ++ ((x ++ e) ++ s)) ++ rest ≡ k ++ ((x ++ e) ++ (s ++ rest))
 regroup k x e s rest = simp append_assoc
 
-request_line : (m t v e s : List ℕ) → m ++ 32 ∷ t ++ 32 ∷ v ++ e ++ s ≡ ((m ++ 32 ∷ t ++ 32 ∷ v) ++ e) ++ s
-request_line m t v e s = simp append_assoc
+request_line : (k m t v e s : List ℕ) → k ++ m ++ 32 ∷ t ++ 32 ∷ v ++ e ++ s ≡ k ++ (((m ++ (32 ∷ t ++ 32 ∷ v)) ++ e) ++ s)
+request_line k m t v e s = simp append_assoc
 
 pub request_over : (h : RequestHead) (rest : List ℕ) → 0 < length h.method → AllPass is_token_byte h.method
     → places Before (print_request h ++ rest) ≡ Over
@@ -137,13 +137,13 @@ request_over h rest some all =
     let w : List ℕ = 32 ∷ h.target ++ 32 ∷ v in
     let section : List ℕ = flat_map print_field h.fields ++ print_end h.last in
     let parts : print_request h ≡ print_blank h.blank ++ (((h.method ++ w) ++ print_end h.line_end) ++ section) =
-    ap (λ (l : List ℕ). print_blank h.blank ++ l) (request_line h.method h.target v (print_end h.line_end) section) in
+    request_line (print_blank h.blank) h.method h.target v (print_end h.line_end) section in
     ap (λ (l : List ℕ). places Before (l ++ rest)) parts
     ∙ ap (places Before) (regroup (print_blank h.blank) (h.method ++ w) (print_end h.line_end) section rest)
     ∙ blank_passed h.blank (((h.method ++ w) ++ print_end h.line_end) ++ (section ++ rest))
     ∙ section_over ((h.method ++ w) ++ print_end h.line_end) rest h.fields h.last (method_line h.method w h.line_end some all)
 
 pub request_none_open : (b : List ℕ) → ends_head b ≡ false → HasNoRequest b
-request_none_open b open h rest reads =
+request_none_open b unended h rest reads =
     let over : places Before b ≡ Over = ap (places Before) reads.1 ∙ request_over h rest reads.0.method.0 reads.0.method.1 in
-    true≢false (sym (ap is_over over) ∙ open)
+    true≢false (sym (ap is_over over) ∙ unended)

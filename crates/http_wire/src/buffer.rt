@@ -101,7 +101,7 @@ impl Buffer {
         ensures reads { Reads S.left S.faults S.reads src.old src.new self.old self.new }
         ensures more { OnOk result (length self.old < length self.new) }
         ensures few { OnErr result (length self.new < most) }
-        ensures open { OnErr result (IsOpen self.old self.new) }
+        ensures unended { OnErr result (IsOpen self.old self.new) }
         ensures stops { IfErr result (λ e. FillStops e (S.left src.new)) }
         ensures cause { result ≡ Err stop.ReadFault → Rose (S.faults src.old) (S.faults src.new) }
     {
@@ -111,7 +111,7 @@ impl Buffer {
             let count = self.fill(src)?;
             let bytes = self.bytes();
             place = place.behind(&bytes[bytes.len() - count..]);
-            if place == Place::Over || bytes.len() >= most || bytes.len() / 2 >= held {
+            if place.is_over() || bytes.len() >= most || bytes.len() / 2 >= held {
                 return Ok(());
             }
         }

@@ -1,9 +1,9 @@
 // Where a head ends.
 ghost use Rattle.std.specs.Prelude.{◌≡◌};
-ghost use Rattle.http_wire.specs.Endings.{after, places};
+ghost use Rattle.http_wire.specs.Endings.{after, places, is_over};
 
 /// How far bytes have come towards the empty line that ends a head.
-#[derive(Clone, Copy, Debug, Drop, PartialEq, Eq)]
+#[derive(Clone, Copy, Drop)]
 pub enum Place {
     /// No line but empty ones was begun.
     Before,
@@ -22,7 +22,7 @@ impl Place {
     {
         match self {
             Place::Before => {
-                if byte == b'\n' || byte == b'\r' {
+                if byte == b'\r' || byte == b'\n' {
                     Place::Before
                 } else {
                     Place::Line
@@ -57,5 +57,15 @@ impl Place {
             place = place.after(*byte);
         }
         place
+    }
+
+    /// Whether a head has ended.
+    pub fn is_over(self) -> bool
+        ensures { result ≡ is_over self }
+    {
+        match self {
+            Place::Over => true,
+            _ => false,
+        }
     }
 }

@@ -3,3 +3,4 @@ pub mod Params
 pub mod Asked
 pub mod Creations
 pub mod Refusals
+pub mod Routing

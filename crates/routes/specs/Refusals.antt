@@ -1,13 +1,17 @@
 -- What a refusal is answered: a status, and a JSON object with its keys in byte order (RFC 8259).
-use Rattle.std.specs.Prelude.{ℕ, List, ◌++◌, Option, Some, None, codes, decimal}
+use Rattle.std.specs.Prelude.{ℕ, Bool, true, List, ◌++◌, Option, Some, None, option_map, codes, decimal}
 use Rattle.term_core.specs.Apps.{app_name}
+use Rattle.http_wire.specs.declared.message.HttpResponse.{HttpResponse}
 use Rattle.http_wire.specs.declared.message.Why.{Why}
 use Rattle.http_wire.specs.declared.message.Why.TheVariants as why
 use Rattle.routes.specs.declared.endpoint.Allowed.{Allowed}
 use Rattle.routes.specs.declared.fault.Param.{Param}
 use Rattle.routes.specs.declared.fault.Param.TheVariants as param
+use Rattle.routes.specs.declared.fault.RouteFault.{RouteFault}
+use Rattle.routes.specs.declared.fault.RouteFault.TheVariants as fault
 use Rattle.routes.specs.declared.refusal.Refusal.{Refusal}
 use Rattle.routes.specs.declared.refusal.Refusal.TheVariants as refusal
+use Rattle.routes.specs.Paths.{method_name}
 
 abbrev pub param_name : Param → List ℕ
 param_name param.Application = codes "application"
@@ -92,3 +96,20 @@ body_of refusal.MailboxFull = plain_body (codes "mailbox_full")
 body_of (refusal.NoSlot app live) = slot_body (app_name app) live
 body_of (refusal.JournalFull entries bytes) = journal_body entries bytes
 body_of refusal.Memory = plain_body (codes "memory")
+
+-- after a request that isn't heard the connection is closed
+abbrev pub closes : Refusal → (close : Bool) → Bool
+closes (refusal.Unheard w) close = true
+closes _ close = close
+
+abbrev pub refusal_of : RouteFault → Refusal
+refusal_of fault.NoPath = refusal.NoPath
+refusal_of (fault.BadMethod allow) = refusal.BadMethod allow
+refusal_of (fault.BadParam name) = refusal.BadParam name
+refusal_of fault.BadId = refusal.BadId
+refusal_of fault.Memory = refusal.Memory
+
+-- the answer to a refused request, which may ask to close the connection
+abbrev pub response_of : Refusal → (close : Bool) → HttpResponse
+response_of r close =
+    record { status = status_of r; allow = option_map method_name (allow_of r); close = closes r close; body = body_of r }

@@ -2,6 +2,7 @@ ghost use Rattle.std.specs.Prelude.{◌≡◌, ◌≢◌, IfOk, IfErr, Ok, Err, 
 ghost use Rattle.routes.specs.Asked.{format_by, max_by, named_by, id_by, body_by, send_from, send_by, pull_from, pull_by, abort_from, abort_by, destroy_from, destroy_by};
 ghost use Rattle.routes.specs.Params.{first_param};
 
+use crate::creation::Creation;
 use crate::fault::{Param, RouteFault};
 use crate::params::{param, small_number};
 use pengine_id::Id;
@@ -21,6 +22,8 @@ pub enum Format {
 /// What a request asks.
 #[derive(Drop)]
 pub enum Asked {
+    /// To make a pengine.
+    Create(Creation),
     /// To send a pengine the request that the text writes.
     Send {
         id: Id,

@@ -9,6 +9,7 @@ mod fault;
 mod params;
 mod refusal;
 mod router;
+mod routing;
 
 pub use asked::{Asked, Format};
 pub use creation::{Creation, Settings};
@@ -16,6 +17,7 @@ pub use endpoint::{Allowed, Endpoint};
 pub use fault::{Param, RouteFault};
 pub use refusal::Refusal;
 pub use router::Routes;
+pub use routing::route;
 
 #[cfg(test)]
 mod tests;

@@ -1,12 +1,14 @@
 // What a refusal is answered.
-ghost use Rattle.std.specs.Prelude.{◌≡◌, IfOk, string_bytes};
-ghost use Rattle.routes.specs.Refusals.{param_name, unheard_status, unheard_name, status_of, allow_of, plain_body, numbered_body, param_body, slot_body, journal_body, body_of};
+ghost use Rattle.std.specs.Prelude.{◌≡◌, IfOk, option_map, string_bytes};
+ghost use Rattle.routes.specs.Paths.{method_name};
+ghost use Rattle.routes.specs.Refusals.{param_name, unheard_status, unheard_name, status_of, allow_of, closes, response_of, plain_body, numbered_body, param_body, slot_body, journal_body, body_of};
 
 use crate::endpoint::Allowed;
-use crate::fault::Param;
-use http_wire::Why;
+use crate::fault::{Param, RouteFault};
+use http::Method;
+use http_wire::{HttpResponse, Why};
 use std::alloc::Global;
-use term_core::{App, Memory};
+use term_core::{App, Bytes, Memory};
 
 /// All that may be refused over HTTP.
 #[derive(Clone, Copy, Drop)]
@@ -41,6 +43,23 @@ pub enum Refusal {
     Memory,
 }
 
+impl From<RouteFault> for Refusal {
+    ghost use Rattle.std.specs.Prelude.{◌≡◌};
+    ghost use Rattle.routes.specs.Refusals.{refusal_of};
+
+    ghost from_gives = { λ fault refusal. refusal ≡ refusal_of fault };
+
+    fn from(fault: RouteFault) -> Refusal {
+        match fault {
+            RouteFault::NoPath => Refusal::NoPath,
+            RouteFault::BadMethod { allow } => Refusal::BadMethod { allow },
+            RouteFault::BadParam(param) => Refusal::BadParam(param),
+            RouteFault::BadId => Refusal::BadId,
+            RouteFault::Memory => Refusal::Memory,
+        }
+    }
+}
+
 impl Param {
     /// The name as it stands in a query or an object.
     pub fn name(self) -> &'static str
@@ -60,6 +79,17 @@ impl Param {
             Param::SrcText => "src_text",
             Param::Template => "template",
         }
+    }
+}
+
+/// The method that an answer names.
+fn method_of(allow: Option<Allowed>) -> Option<Method>
+    ensures { result ≡ option_map method_name allow }
+{
+    match allow {
+        Some(Allowed::Get) => Some(Method::GET),
+        Some(Allowed::Post) => Some(Method::POST),
+        None => None,
     }
 }
 
@@ -163,5 +193,29 @@ impl Refusal {
             Refusal::JournalFull { entries, bytes } => journal_body(alloc, entries, bytes),
             Refusal::Memory => plain_body(alloc, "memory"),
         }
+    }
+
+    /// Whether the connection is closed after the answer: after what is no request, and else as it asked.
+    pub fn closes(self, close: bool) -> bool
+        ensures { result ≡ closes self close }
+    {
+        match self {
+            Refusal::Unheard(_) => true,
+            _ => close,
+        }
+    }
+
+    /// The answer to what is refused, where `close` says whether the request asks to close the
+    /// connection. `Err` is want of memory.
+    pub fn response(self, alloc: Global, close: bool) -> Result<HttpResponse, Memory>
+        ensures { IfOk result (λ r. r ≡ response_of self close) }
+    {
+        let body = self.body(alloc)?;
+        Ok(HttpResponse {
+            status: self.status(),
+            allow: method_of(self.allow()),
+            close: self.closes(close),
+            body: Bytes::from_vec(body.into_bytes()),
+        })
     }
 }

@@ -27,7 +27,7 @@ looks-preserved g c = reads_on g.S.Source.left g.S.Source.faults g.S.Source.read
 pub at_end-requires-clause-none : goal.at_end-requires-clause-none
 at_end-requires-clause-none g c =
     subst g.H.Heads.none (sym c.bytes-in-End.ensures)
-    (none_after g.H.Heads.none g.met.H.Heads.none_open _ _ _ (small_front _ _ _ c.bytes.ensures c.front.ensures c.in-Open.ensures.0) c.in-Open.ensures.1 c.in-Err.ensures.open)
+    (none_after g.H.Heads.none g.met.H.Heads.none_open _ _ _ (small_front _ _ _ c.bytes.ensures c.front.ensures c.in-Open.ensures.0) c.in-Open.ensures.1 c.in-Err.ensures.unended)
 
 pub returns-in-End-clause-reads : goal.returns-in-End-clause-reads
 returns-in-End-clause-reads g c = reads_on g.S.Source.left g.S.Source.faults g.S.Source.reads _ _ _ _ _ _ c.looks.invariant c.fill_head.ensures.reads
@@ -43,7 +43,7 @@ returns-in_default-clause-reads g c = reads_on g.S.Source.left g.S.Source.faults
 pub returns-in_default-clause-err : goal.returns-in_default-clause-err
 returns-in_default-clause-err g c =
     head_stops_else g.H.Heads.none g.H.Heads.may g.H.Heads.refused _ _ c.in-Err.stop c.in_default.not-End c.in-Err.ensures.stops
-    (none_after g.H.Heads.none g.met.H.Heads.none_open _ _ _ (small_front _ _ _ c.bytes.ensures c.front.ensures c.in-Open.ensures.0) c.in-Open.ensures.1 c.in-Err.ensures.open)
+    (none_after g.H.Heads.none g.met.H.Heads.none_open _ _ _ (small_front _ _ _ c.bytes.ensures c.front.ensures c.in-Open.ensures.0) c.in-Open.ensures.1 c.in-Err.ensures.unended)
 
 pub returns-in_default-clause-cause : goal.returns-in_default-clause-cause
 returns-in_default-clause-cause g c =

@@ -1,10 +1,12 @@
-use Rattle.std.proofs.Common.{◌≡◌, ◌<◌, ◌+◌, ◌-◌, ◌++◌, [], ◌||◌, nat_eq, Bool, false, ℕ, List, length, take, drop, refl, sym, ap, ◌∙◌, subst, arith, append_assoc, append-nil, length-append}
-use Rattle.std.proofs.lemmas.List.Folds.{list_any-append}
+use Rattle.std.proofs.Common.{◌≡◌, ◌<◌, ◌+◌, ◌-◌, ◌++◌, false, inl, inr, ℕ, List, length, take, drop, refl, sym, ap, ◌∙◌, subst, arith, length-append}
 use Rattle.std.proofs.lemmas.List.{take_all}
 use Rattle.std.proofs.Math.Seq.{drop-append_seam}
-use Rattle.http_wire.specs.Heads.{ends_line, HasNoLine}
+use Rattle.http_wire.specs.declared.ending.Place.{Place}
+use Rattle.http_wire.specs.declared.ending.Place.TheVariants.{Before, Over}
+use Rattle.http_wire.specs.Endings.{places, is_over, ends_head, IsOpen}
+use Rattle.http_wire.specs.HeadLaws.{places_append}
 use Rattle.http_wire.proofs.Reading.{reads_none, reads_on}
-use Rattle.http_wire.proofs.buffer.Buffer.fill_line.Goals as goal
+use Rattle.http_wire.proofs.buffer.Buffer.fill_head.Goals as goal
 
 -- the last bytes, so many as were read
 tail_is : (b c read : List ℕ) (n : ℕ) → c ≡ b ++ read → length c ≡ length b + n → take (length c - (length c - n)) (drop (length c - n) c) ≡ read
@@ -14,36 +16,37 @@ tail_is b c read n grown count =
     let tail : drop (length c - n) c ≡ read = ap (λ (k : ℕ). drop k c) at ∙ ap (drop (length b)) grown ∙ drop-append_seam b read in
     ap (take (length c - (length c - n))) tail ∙ take_all _ read (omega (arith, size, count))
 
--- a piece without the end of a line behind others
-no_line_more : (a b c read : List ℕ) (n : ℕ) → HasNoLine a b → c ≡ b ++ read → length c ≡ length b + n
-    → ends_line (take (length c - (length c - n)) (drop (length c - n) c)) ≡ false → HasNoLine a c
-no_line_more a b c read n line grown count none =
-    let none' : ends_line read ≡ false = ap ends_line (sym (tail_is b c read n grown count)) ∙ none in (
-      line.0 ++ read,
-      grown ∙ ap (λ (l : List ℕ). l ++ read) line.1 ∙ append_assoc a line.0 read,
-      list_any-append (λ b. nat_eq b 10) line.0 read ∙ (λ k. line.2 k || none' k),
-    )
-
-no_line_read : {bytes new : List ℕ} → bytes ≡ new → (n : ℕ) {r : Bool} → r ≡ ends_line (take (length bytes - (length bytes - n)) (drop (length bytes - n) bytes)) → r ≡ false
-    → ends_line (take (length new - (length new - n)) (drop (length new - n) new)) ≡ false
-no_line_read same n is none = ap (λ (l : List ℕ). ends_line (take (length l - (length l - n)) (drop (length l - n) l))) (sym same) ∙ sym is ∙ none
+-- the place behind them too
+behind_more : (b c bytes read : List ℕ) (n : ℕ) (p : Place) → p ≡ places Before b → bytes ≡ c → c ≡ b ++ read → length c ≡ length b + n
+    → places p (take (length bytes - (length bytes - n)) (drop (length bytes - n) bytes)) ≡ places Before c
+behind_more b c bytes read n p behind same grown count =
+    ap (λ (l : List ℕ). places p (take (length l - (length l - n)) (drop (length l - n) l))) same
+    ∙ ap (places p) (tail_is b c read n grown count)
+    ∙ ap (λ (q : Place). places q read) behind
+    ∙ sym (places_append Before b read) ∙ ap (places Before) (sym grown)
 
 pub pieces-init : goal.pieces-init
 pieces-init g c = record {
   reads = reads_none g.S.Source.left g.S.Source.faults g.S.Source.reads _ _ _ refl;
-  line = ([], sym (append-nil c.args.self.now), refl);
+  behind = c.behind-place.ensures ∙ ap (places Before) c.bytes.ensures;
+  unended = inl refl;
   few = c.requires;
 }
 
 pub returns-in_err-count-clause-reads : goal.returns-in_err-count-clause-reads
 returns-in_err-count-clause-reads g c = reads_on g.S.Source.left g.S.Source.faults g.S.Source.reads _ _ _ _ _ _ c.pieces.invariant.reads c.fill.ensures.reads
 
-pub returns-then-bytes-most-clause-reads : goal.returns-then-bytes-most-clause-reads
-returns-then-bytes-most-clause-reads g c = reads_on g.S.Source.left g.S.Source.faults g.S.Source.reads _ _ _ _ _ _ c.pieces.invariant.reads c.fill.ensures.reads
+pub returns-then-is_over-clause-reads : goal.returns-then-is_over-clause-reads
+returns-then-is_over-clause-reads g c = reads_on g.S.Source.left g.S.Source.faults g.S.Source.reads _ _ _ _ _ _ c.pieces.invariant.reads c.fill.ensures.reads
 
 pub pieces-preserved : goal.pieces-preserved
-pieces-preserved g c = record {
-  reads = reads_on g.S.Source.left g.S.Source.faults g.S.Source.reads _ _ _ _ _ _ c.pieces.invariant.reads c.fill.ensures.reads;
-  line = no_line_more _ _ _ _ c.in_ok-count.count c.pieces.invariant.line c.fill.ensures.reads.grown c.in_ok-count.ensures.some.1 (no_line_read c.bytes-bytes.ensures c.in_ok-count.count c.contains.ensures.value c.if-contains.false);
-  few = subst (λ (l : List ℕ). length l < c.args.most) c.bytes-bytes.ensures c.if-bytes-most.false;
-}
+pieces-preserved g c =
+    let behind : c.behind-place-in-pieces.result ≡ places Before c.fill.new.self =
+    c.behind-place-in-pieces.ensures
+    ∙ behind_more _ _ _ _ c.in_ok-count.count _ c.pieces.invariant.behind c.bytes-bytes.ensures c.fill.ensures.reads.grown c.in_ok-count.ensures.some.1 in
+    record {
+      reads = reads_on g.S.Source.left g.S.Source.faults g.S.Source.reads _ _ _ _ _ _ c.pieces.invariant.reads c.fill.ensures.reads;
+      behind = behind;
+      unended = inr (ap is_over (sym behind) ∙ sym c.is_over.ensures ∙ c.if-is_over.false);
+      few = subst (λ (l : List ℕ). length l < c.args.most) c.bytes-bytes.ensures c.if-bytes-most.false;
+    }
