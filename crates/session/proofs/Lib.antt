@@ -5,6 +5,7 @@ pub mod Lively
 pub mod Numbers
 pub mod Recording
 pub mod Resolution
+pub mod Resting
 mod Rings
 pub mod Room
 mod Rows

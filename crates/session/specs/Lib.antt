@@ -5,6 +5,7 @@ pub mod Kept
 pub mod Laws
 pub mod Legal
 pub mod Recorded
+pub mod Resting
 pub mod Shows
 pub mod Turns
 pub mod TurnsKept
