@@ -256,7 +256,7 @@ comes_is v p h home =
     let k : IsKept v p = h.kept in
     let place : place_of v.look v.events ≡ place_at p.state p.events = look_place v.look p.state p.turn v.events p.events home k.events h.look in
     let all : gives_all z (seen p) ≡ front k.before (gives_all_at z (place_at p.state p.events) v.queue) =
-        ap (λ (es : List Event). gives_all_at z (place_at p.state p.events) es) k.emitted ∙ gives_all_front z (place_at p.state p.events) k.before v.queue in
+    ap (λ (es : List Event). gives_all_at z (place_at p.state p.events) es) k.emitted ∙ gives_all_front z (place_at p.state p.events) k.before v.queue in
     let y : Reading = gives_all_at z (place_at p.state p.events) v.queue in
     ap (λ (w : Place). gives_all_at z w v.queue) place
     ∙ ap (λ (es : List Event). at y.place es) (sym (drop-append_seam k.before y.emitted) ∙ ap (λ (n : ℕ). drop n (k.before ++ y.emitted)) k.handed)
@@ -321,9 +321,9 @@ hears v w e es led queue l =
     let first : comes v ≡ front (e ∷ []) (gives_all_at z (place_of v.look v.events) es) = ap (λ (qs : List Event). gives_all_at z (place_of v.look v.events) qs) queue ∙ gives_all_front z (place_of v.look v.events) (e ∷ []) es in
     let y : Reading = gives_all_at z (place_of v.look v.events) es in
     let now : comes w ≡ y =
-        comes_after v w p q (p.pulled + 1) (gives_all z (seen p)) l.program l.settings h home refl refl
-        ∙ ap (λ (es : List Event). at (gives_all z (seen p)).place es) (drop_more p.pulled (gives_all z (seen p)).emitted)
-        ∙ ap (λ (x : Reading). cut 1 x) (sym was ∙ first) in
+    comes_after v w p q (p.pulled + 1) (gives_all z (seen p)) l.program l.settings h home refl refl
+    ∙ ap (λ (es : List Event). at (gives_all z (seen p)).place es) (drop_more p.pulled (gives_all z (seen p)).emitted)
+    ∙ ap (λ (x : Reading). cut 1 x) (sym was ∙ first) in
     record {
       led = record { recorded = record_more v w (r.entries ++ Pulled 1 ∷ []) l.program r.keeps more; mailbox = h.kept.mailbox ∙ m; home = home };
       program = l.program;
