@@ -1,19 +1,24 @@
 // The command `session`: reads a script and prints its lines.
-ghost use Rattle.std.specs.Prelude.{◌≡◌, ◌≤◌, ◌⊎◌, ◌++◌, [], ◌∷◌, IfOk, OnOk, IsErrOf};
+ghost use Rattle.std.specs.Prelude.{◌≡◌, ◌≢◌, ◌≤◌, ◌⊎◌, ◌++◌, [], ◌∷◌, Ok, Err, IfOk, IfErr, OnOk, IsErrOf};
 ghost use Rattle.std.specs.Io.KnownBytes.{Appends};
 ghost use Rattle.outside.specs.Faults.{Rose};
 ghost use Rattle.pengines.specs.Output.{AppendsPart, AppendsLines, SaysMemory, line, text_of_lines};
 ghost use Rattle.pengines.specs.Session.{Done, DonePart, DoneToMemory, IsTooLong, IsRefused, Unchanged};
 ghost use Rattle.request_text.specs.declared.fault.ScriptFault.{ScriptFault as Fault};
+ghost use Rattle.request_text.specs.declared.fault.ScriptFault.TheVariants as fault;
+ghost use Rattle.request_text.specs.Kept.{script_read};
+ghost use Rattle.request_text.specs.Spelled.{script};
+ghost use Rattle.sandbox_walk.specs.Keeping.{KeepsSandbox};
+ghost use Rattle.term_core.specs.declared.app.App.TheVariants.{Sandbox};
 
 use crate::input::{InputStop, read_input};
 use crate::output::{WriteFault, say, with_line_end, write_all};
 use crate::printing::Printing;
 use lib_text::Library;
 use outside::{Sink, Source};
-use request_text::{ScriptFault, read_script};
+use request_text::{Script, ScriptFault, read_script};
 use std::alloc::Global;
-use term_core::Memory;
+use term_core::{App, Memory};
 
 /// Why a session ended before its last line.
 #[derive(Debug, Drop)]
@@ -47,7 +52,7 @@ impl From<InputStop> for SessionStop {
 
 impl From<Memory> for SessionStop {
     ghost use Rattle.std.specs.Prelude.{◌≡◌};
-    ghost use Rattle.pengines.specs.declared.session.SessionStop.TheVariants.{Memory};
+    ghost use Rattle.pengines.specs.declared.scripts.SessionStop.TheVariants.{Memory};
 
     ghost from_gives = { λ _ s. s ≡ Memory };
 
@@ -65,7 +70,7 @@ enum PrintStop {
 
 impl From<WriteFault> for PrintStop {
     ghost use Rattle.std.specs.Prelude.{◌≡◌};
-    ghost use Rattle.pengines.specs.declared.session.PrintStop.TheVariants.{WriteFault};
+    ghost use Rattle.pengines.specs.declared.scripts.PrintStop.TheVariants.{WriteFault};
 
     ghost from_gives = { λ _ e. e ≡ WriteFault };
 
@@ -76,7 +81,7 @@ impl From<WriteFault> for PrintStop {
 
 impl From<Memory> for PrintStop {
     ghost use Rattle.std.specs.Prelude.{◌≡◌};
-    ghost use Rattle.pengines.specs.declared.session.PrintStop.TheVariants.{Memory};
+    ghost use Rattle.pengines.specs.declared.scripts.PrintStop.TheVariants.{Memory};
 
     ghost from_gives = { λ _ e. e ≡ Memory };
 
@@ -117,8 +122,7 @@ pub fn run_session<S: Source, K: Sink>(
         ⊎ DoneToMemory S.left K.taken K.faults src.old src.new out.old out.new }
 {
     let input = read_input(alloc, src)?;
-    let library = Library::read(alloc)?;
-    let script = match read_script(alloc, &library, &input) {
+    let script = match script_in(alloc, &input) {
         Ok(script) => script,
         Err(ScriptFault::Memory) => return Err(SessionStop::Memory),
         Err(fault) => return Err(SessionStop::Refused(fault)),
@@ -129,6 +133,16 @@ pub fn run_session<S: Source, K: Sink>(
         Err(PrintStop::WriteFault) => Err(SessionStop::WriteFault),
         Err(PrintStop::Memory) => Err(SessionStop::Memory),
     }
+}
+
+/// The script that an input spells over the library of the sandbox.
+fn script_in(alloc: Global, input: &[u8]) -> Result<Script, ScriptFault>
+    ensures script { IfOk result (λ s. script Sandbox input.now ≡ Ok (script_read s)) }
+    ensures keeps { IfOk result (λ s. KeepsSandbox s.spec.program.value) }
+    ensures refused { IfErr result (λ e. e ≢ fault.Memory → script Sandbox input.now ≡ Err e) }
+{
+    let library = Library::read(alloc, App::Sandbox)?;
+    read_script(alloc, &library, input)
 }
 
 /// Prints a script's lines, or some first ones and the line `memory` where memory is wanting.

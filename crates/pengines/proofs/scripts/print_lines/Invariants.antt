@@ -1,7 +1,7 @@
 use Rattle.std.proofs.Common.{◌≡◌, ◌≤◌, List, ℕ, ◌++◌, length}
 use Rattle.std.specs.Io.KnownBytes.{Appends}
 use Rattle.pengines.specs.Output.{text_of_lines}
-use Rattle.pengines.proofs.session.print_lines.Given as goal
+use Rattle.pengines.proofs.scripts.print_lines.Given as goal
 
 abbrev pub invariant-loop-text : goal.invariant-loop-text
 invariant-loop-text g l = (first : List (List ℕ)) × (l.initial.printing ≡ first ++ l.printing)

@@ -1,6 +1,6 @@
 use Rattle.std.proofs.Common.{Err, ap}
 use Rattle.pengines.proofs.Lines.{SaysMemory-of_lines}
-use Rattle.pengines.proofs.session.print_script.Goals as goal
+use Rattle.pengines.proofs.scripts.print_script.Goals as goal
 
 pub returns-in-Err-Memory-clause-memory : goal.returns-in-Err-Memory-clause-memory
 returns-in-Err-Memory-clause-memory g c =

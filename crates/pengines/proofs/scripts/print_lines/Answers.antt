@@ -1,6 +1,6 @@
 use Rattle.std.proofs.Common.{ℕ, List, [], ◌∷◌, ◌++◌, sym, ap, ◌∙◌, arith, append_assoc}
 use Rattle.pengines.proofs.Lines.{Appends-line, AppendsPart-of_line}
-use Rattle.pengines.proofs.session.print_lines.Goals as goal
+use Rattle.pengines.proofs.scripts.print_lines.Goals as goal
 
 pub returns-in_err-write_all-clause-write_fault : goal.returns-in_err-write_all-clause-write_fault
 returns-in_err-write_all-clause-write_fault g c =

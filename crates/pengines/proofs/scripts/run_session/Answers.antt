@@ -1,6 +1,6 @@
 use Rattle.std.proofs.Common.{Err, ap, inr}
 use Rattle.pengines.proofs.Reading.{reads_script}
-use Rattle.pengines.proofs.session.run_session.Goals as goal
+use Rattle.pengines.proofs.scripts.run_session.Goals as goal
 
 pub returns-in-Ok-print_script-clause-done : goal.returns-in-Ok-print_script-clause-done
 returns-in-Ok-print_script-clause-done g c = record {
