@@ -45,7 +45,7 @@ abbrev pub status_of : Refusal → ℕ
 status_of (refusal.Unheard w) = unheard_status w
 status_of refusal.NoPath = 404
 status_of (refusal.BadMethod allow) = 405
-status_of (refusal.BadParam name) = 400
+status_of (refusal.BadParam _) = 400
 status_of refusal.BadId = 400
 status_of (refusal.Source at) = 400
 status_of (refusal.Clause clause) = 400

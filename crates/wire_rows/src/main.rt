@@ -1,4 +1,4 @@
-//! Compares what is read from a wire and written to it with tables of rows: what is given, and what is to
+//! Compares what is read from a wire, what it asks, and what is written to a wire with tables of rows: what is given, and what is to
 //! come of it.
 //!
 //! Each table is a file of `data/` (docs/FORMATS.md). A line is printed for each row that differs, and the
@@ -6,6 +6,7 @@
 #![tactic(auto)]
 
 mod connections;
+mod routed;
 mod row;
 mod stop;
 mod table;

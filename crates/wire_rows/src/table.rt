@@ -1,14 +1,16 @@
 // The tables, each a file of its name.
 use crate::connections::{asking_of, requests_of, response_of, responses_of};
+use crate::routed::routed_of;
 use crate::row::Row;
 use crate::stop::Stop;
 use std::alloc::Global;
 
 /// The names of the tables, and how many fields of a row are given; what follows is to come of them.
-pub(crate) const TABLES: [(&str, u32); 4] = [
+pub(crate) const TABLES: [(&str, u32); 5] = [
     ("asking", 3),
     ("requests", 1),
     ("responses", 1),
+    ("routes", 3),
     ("written", 4),
 ];
 
@@ -18,6 +20,7 @@ fn outcome(alloc: Global, table: &str, row: &Row) -> Result<String, Stop> {
         "asking" => asking_of(alloc, row),
         "requests" => requests_of(alloc, row.field(0)),
         "responses" => responses_of(alloc, row.field(0)),
+        "routes" => routed_of(alloc, row),
         "written" => response_of(alloc, row),
         _ => Err(Stop::Malformed),
     }
