@@ -147,9 +147,10 @@ create_told (Some v) ss = refl
 -- a session that was just made
 pub begun_printed : (s : Script) (v : View) (ss : List Sent) → v.program ≡ s.program → v.settings ≡ s.settings → KeepsSandbox s.program → IsRecord [] v → ss ≡ s.lines → IsLed v × (left (Some v) false ss ≡ script_lines s)
 begun_printed s v ss c e keeps r lines =
-    let b : IsLed v × (comes v ≡ at Free []) = begins_led v (subst (λ (l : Loaded). KeepsSandbox l) (sym c) keeps) r in
-    (b.0,
-    ap (λ (y : Reading). lines_left (spec_seen v) (event.Create ∷ y.emitted) ss y.place) b.1
-    ∙ ap (λ (z : Spec). lines_left z (event.Create ∷ []) ss Free) (same_spec v.program s.program v.settings s.settings c e)
-    ∙ ap (λ (ts : List Sent). lines_left (spec_of s.program s.settings) (event.Create ∷ []) ts Free) lines
-    ∙ lines_left-script s)
+    let b : IsLed v × (comes v ≡ at Free []) = begins_led v (subst (λ (l : Loaded). KeepsSandbox l) (sym c) keeps) r in (
+      b.0,
+      ap (λ (y : Reading). lines_left (spec_seen v) (event.Create ∷ y.emitted) ss y.place) b.1
+          ∙ ap (λ (z : Spec). lines_left z (event.Create ∷ []) ss Free) (same_spec v.program s.program v.settings s.settings c e)
+          ∙ ap (λ (ts : List Sent). lines_left (spec_of s.program s.settings) (event.Create ∷ []) ts Free) lines
+          ∙ lines_left-script s,
+    )

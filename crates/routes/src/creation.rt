@@ -111,7 +111,12 @@ fn settings_of(object: &Value, app: App) -> Result<Settings, RouteFault>
     let greatest = greatest_limit(app);
     let chunk = number_of(object.get("chunk"), Param::Chunk, 1, 1_000)?;
     let destroys = flag_of(object.get("destroy"), Param::Destroy, true)?;
-    let limit = number_of(object.get("limit"), Param::Limit, greatest.min(1_000_000), greatest)?;
+    let limit = number_of(
+        object.get("limit"),
+        Param::Limit,
+        greatest.min(1_000_000),
+        greatest,
+    )?;
     let names = flag_of(object.get("names"), Param::Names, false)?;
     Ok(Settings {
         chunk,

@@ -42,11 +42,7 @@ fn asked_at(
 /// What a request asks. `NoPath` where its path is none of the server's, then `BadMethod` where the path
 /// is for another method, then `BadParam` of the first missing or wrong parameter by the byte order of
 /// their names, then `BadId` where the id is no UUID's text; `Memory` is want of memory.
-pub fn route(
-    alloc: Global,
-    routes: &Routes,
-    request: &HttpRequest,
-) -> Result<Asked, RouteFault>
+pub fn route(alloc: Global, routes: &Routes, request: &HttpRequest) -> Result<Asked, RouteFault>
     ensures ok { IfOk result (λ a. asked_by request.now.method request.now.target request.now.body ≡ Ok a) }
     ensures err { IfErr result (λ e. e ≢ RouteFault.Memory
         → asked_by request.now.method request.now.target request.now.body ≡ Err e) }

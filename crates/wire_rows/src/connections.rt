@@ -14,7 +14,9 @@ use term_core::Bytes;
 
 /// How many bytes a read gives: one, a few, or all that are asked for.
 const SINGLE: u64 = 1;
+
 const FEW: u64 = 7;
+
 const ALL: u64 = 65_536;
 
 /// The text of a body; of one that is longer than 80 bytes only its length.

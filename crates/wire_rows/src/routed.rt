@@ -91,8 +91,7 @@ fn refusal_text(alloc: Global, refusal: Refusal) -> Result<String, Stop> {
 
 /// The request of a method, a target and a body.
 fn request_of(alloc: Global, row: &Row) -> Result<HttpRequest, Stop> {
-    let method =
-        Method::from_bytes(alloc, row.field(0).as_bytes()).map_err(|_| Stop::Malformed)?;
+    let method = Method::from_bytes(alloc, row.field(0).as_bytes()).map_err(|_| Stop::Malformed)?;
     let target = Text::from_str(alloc, row.field(1))?;
     let mut body = Bytes::new(alloc);
     body.append(row.field(2).as_bytes())?;
