@@ -74,7 +74,10 @@ impl Printing {
             let text = line(alloc, &Event::Create)?;
             return Ok(Some(text));
         }
-        match next_told(&mut self.session, &mut self.lines)? {
+        let mut session = self.session.take();
+        let told = next_told(&mut session, &mut self.lines)?;
+        self.session = session;
+        match told {
             Some(told) => Ok(Some(text_of(alloc, &told)?)),
             None => Ok(None),
         }

@@ -1,4 +1,4 @@
-use Rattle.std.proofs.Common.{◌≡◌, ◌×◌, rules, false, List, Some}
+use Rattle.std.proofs.Common.{◌≡◌, rules, false, List, Some}
 use Rattle.request_text.specs.Kept.{script_read}
 use Rattle.request_text.specs.Lines.{script_lines}
 use Rattle.session.specs.Resting.{IsLed}
