@@ -79,13 +79,13 @@ fn asked_text(alloc: Global, asked: &Asked) -> Result<String, Stop> {
 /// The answer to what is refused, on one line: its status, the method that it names, its body.
 fn refusal_text(alloc: Global, refusal: Refusal) -> Result<String, Stop> {
     let response = refusal.response(alloc, false)?;
+    let status = response.status;
+    let body = String::from_utf8(response.body.into_vec()).map_err(|_| Stop::Malformed)?;
+    let body = body.as_str();
     let allow = match &response.allow {
         Some(method) => method.as_str(),
         None => "-",
     };
-    let status = response.status;
-    let body = String::from_utf8(response.body.into_vec()).map_err(|_| Stop::Malformed)?;
-    let body = body.as_str();
     Ok(format!(in alloc; "{status} {allow} {body}")?)
 }
 
