@@ -1,10 +1,10 @@
 #!/usr/bin/env python3
-"""Times the reading of requests and responses from a stream in memory. Run by hand; no gate reads it.
+"""Times the reading of requests and responses from a stream in memory, and the routing of requests. Run by hand; no gate reads it.
 
-It builds a small program over `http_wire` in a folder of its own. Times are a process's own, not the clock's. Of small
+It builds a small program over `http_wire` and `routes` in a folder of its own. Times are a process's own, not the clock's. Of small
 messages a stream of 100,000 is read; what it takes to read the source alone is taken off, and for requests what `httparse`
-takes for the same heads. Of heads of 16,384 bytes each shape is read whole and in single bytes, and what it takes to read
-the source alone, whole or in single bytes, is taken off; the ratio after it is with the single reads left in.
+takes for the same heads. Heads of several shapes, most of them of 16,384 bytes, are read whole and in single bytes, and what it
+takes to read the source alone, whole or in single bytes, is taken off; the ratio after it is with the reads of the source left in.
 
 Usage: bench/wire.py
 """
@@ -33,10 +33,18 @@ def equal_fields(line, count):
     return long_field(line + ("x:" + "v" * (room - 4) + "\r\n") * (count - 1), "\r\n")
 
 
+def long_target(size):
+    """A head of so many bytes with a long target."""
+    return "GET /" + "t" * (size - 18) + " HTTP/1.1\r\n\r\n"
+
+
 LINE = "GET / HTTP/1.1\r\n"
 HEADS = {
+    "a target, 256 bytes": long_target(256),
+    "a target, 1,024 bytes": long_target(1_024),
+    "a target, 4,096 bytes": long_target(4_096),
+    "a long target": long_target(HEAD_BYTES),
     "one long field": long_field(LINE, "\r\n"),
-    "a long target": "GET /" + "t" * (HEAD_BYTES - 18) + " HTTP/1.1\r\n\r\n",
     "128 fields": equal_fields(LINE, 128),
     "127 short fields, then a long one": long_field(LINE + "x:\n" * 127, "\n"),
     "a long field, then 127 short ones": long_field(LINE, "x:\n" * 127 + "\n"),
@@ -67,12 +75,13 @@ def small(program):
     heads = run(program, "httparse", PIECE, (PULL + SEND) * 50_000, 100_000)
     for piece in [PIECE, 100, 1]:
         alone = run(program, "source", piece, stream, None)
-        took = run(program, "requests", piece, stream, 100_000)
-        print(
-            f"requests in pieces of {piece:5} {took * 10:6.2f} us each, httparse {heads * 10:6.2f}, source {alone * 10:6.2f};"
-            f" beside httparse's own {(took - heads) * 10:6.2f}",
-            flush=True,
-        )
+        for kind in ["requests", "routed"]:
+            took = run(program, kind, piece, stream, 100_000)
+            print(
+                f"{kind:8} in pieces of {piece:5} {took * 10:6.2f} us each, httparse {heads * 10:6.2f}, source {alone * 10:6.2f};"
+                f" beside httparse's own {(took - heads) * 10:6.2f}",
+                flush=True,
+            )
     answers = (ANSWER + '{"event":"stop"}\n') * 100_000
     alone = run(program, "source", PIECE, answers, None)
     took = run(program, "responses", PIECE, answers, 100_000)
@@ -80,12 +89,12 @@ def small(program):
 
 
 def longest(program):
-    """The rows of heads of 16,384 bytes."""
+    """The rows of long heads."""
     for name, head in HEADS.items():
-        if len(head) != HEAD_BYTES:
+        if len(head) > HEAD_BYTES:
             raise SystemExit(f"{name}: {len(head)} bytes")
         cost = {}
-        for piece, count in [(PIECE, 1000), (1, 50)]:
+        for piece, count in [(PIECE, 16_384_000 // len(head)), (1, 819_200 // len(head))]:
             stream = head * count
             alone = run(program, "source", piece, stream, None)
             took = run(program, "requests", piece, stream, count)
@@ -100,7 +109,7 @@ def longest(program):
 
 def main():
     with tempfile.TemporaryDirectory() as folder:
-        program = built(folder, "wire", ["term_core", "outside", "http_wire"], "http_wire httparse outside term_core", b"source 1\na")
+        program = built(folder, "wire", ["term_core", "outside", "http_wire", "pengine_id", "routes"], "routes http_wire httparse outside term_core", b"source 1\na")
         small(program)
         longest(program)
 

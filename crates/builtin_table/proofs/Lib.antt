@@ -1,3 +1,4 @@
+pub mod Applications
 pub mod Bits
 pub mod Powers
 pub mod Remainders

@@ -1,5 +1,6 @@
 pub mod Arithmetic
 pub mod Errors
+pub mod Integers
 pub mod Lists
 pub mod Numbers
 pub mod Outcomes
@@ -8,4 +9,5 @@ pub mod Primitives
 pub mod Sorting
 pub mod Solutions
 pub mod Table
+pub mod Taken
 pub mod Texts

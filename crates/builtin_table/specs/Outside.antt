@@ -1,10 +1,11 @@
--- Which predicates of this Prolog reach outside of a run.
+-- Which predicates reach outside of a run.
 use Rattle.std.specs.Prelude.{Bool, true, false, Option, Some, None}
+use Rattle.term_core.specs.declared.app.App.{App}
 use Rattle.term_core.specs.declared.pi.Pi.{Pi}
 use Rattle.builtin_table.specs.declared.row.Class.{Class}
 use Rattle.builtin_table.specs.declared.row.Class.TheVariants.{Control, Safe, Meta, Library, Outside}
 use Rattle.builtin_table.specs.declared.row.Row.{Row}
-use Rattle.builtin_table.specs.Table.{Rows, row_of, standard}
+use Rattle.builtin_table.specs.Table.{Rows, row_of, rows_of_app}
 
 abbrev pub is_outside : Class → Bool
 is_outside Outside = true
@@ -21,6 +22,6 @@ is_outside_row (Some r) = is_outside r.class
 abbrev pub is_outside_in : Rows → Pi → Bool
 is_outside_in rs pi = is_outside_row (row_of pi rs)
 
--- in the standard table
-unfoldable pub reaches_outside : Pi → Bool
-reaches_outside pi = is_outside_in standard pi
+-- whether the predicate reaches outside in this application
+unfoldable pub outside_in : App → Pi → Bool
+outside_in app pi = is_outside_in (rows_of_app app) pi

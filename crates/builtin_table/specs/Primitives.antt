@@ -12,6 +12,7 @@ use Rattle.builtin_table.specs.declared.spelling.Spelling.TheVariants.{Character
 use Rattle.builtin_table.specs.Errors.{instantiation_error, type_error, domain_error, representation_error}
 use Rattle.builtin_table.specs.Lists.{list_of, elements, rest, is_list, empty_list}
 use Rattle.builtin_table.specs.Arithmetic.{Value, value_of}
+use Rattle.builtin_table.specs.Integers.{plus, divmod}
 use Rattle.builtin_table.specs.Sorting.{msort, sort, keysort}
 use Rattle.builtin_table.specs.Texts.{atom_length, char_code, atom_spelled, atom_concat, sub_atom}
 use Rattle.builtin_table.specs.Numbers.{number_spelled, atom_number}
@@ -230,6 +231,12 @@ of_three f t u v next =
     else if bytes_eq f (codes "compare") then compares t (tree_cmp u v)
     else if bytes_eq f (codes "atom_concat") then atom_concat t u v
     else if bytes_eq f (codes "$skip_list") then skip_list t u v
+    else if bytes_eq f (codes "plus") then plus t u v
+    else Unknown
+
+unfoldable pub of_four : List ℕ → Tree → Tree → Tree → Tree → Outcome
+of_four f t u v w =
+    if bytes_eq f (codes "divmod") then divmod t u v w
     else Unknown
 
 unfoldable pub of_five : List ℕ → Tree → Tree → Tree → Tree → Tree → Outcome
@@ -242,5 +249,6 @@ unfoldable pub primitive : List ℕ → List Tree → (next : ℕ) → Outcome
 primitive f (t ∷ []) next = of_one f t
 primitive f (t ∷ u ∷ []) next = of_two f t u next
 primitive f (t ∷ u ∷ v ∷ []) next = of_three f t u v next
+primitive f (t ∷ u ∷ v ∷ w ∷ []) next = of_four f t u v w
 primitive f (t ∷ u ∷ v ∷ w ∷ x ∷ []) next = of_five f t u v w x
 primitive f ts next = Unknown

@@ -1,5 +1,7 @@
 -- The table of built-in predicates: the control constructs (ISO 13211-1, 7.8) and the built-in predicates (clause 8) of this Prolog. The sandbox and the loader of programs read their classes and goal positions here.
-use Rattle.std.specs.Prelude.{ℕ, suc, Bool, true, false, not, ◌&&◌, ◌==◌, List, [], ◌∷◌, ◌++◌, map, filter, cond, ℤ, pos, negsuc, Option, Some, None, codes, bytes_eq}
+use Rattle.std.specs.Prelude.{ℕ, suc, Bool, true, false, not, ◌&&◌, ◌||◌, ◌==◌, List, [], ◌∷◌, ◌++◌, map, filter, cond, ℤ, pos, negsuc, Option, Some, None, option_map, codes, bytes_eq}
+use Rattle.term_core.specs.declared.app.App.{App}
+use Rattle.term_core.specs.declared.app.App.TheVariants.{Sandbox, School, Numbers}
 use Rattle.term_core.specs.declared.pi.Pi.{Pi}
 use Rattle.builtin_table.specs.declared.row.Class.{Class}
 use Rattle.builtin_table.specs.declared.row.Class.TheVariants.{Control, Safe, Meta, Library, Outside}
@@ -14,6 +16,10 @@ Rows = List (Pi × Row)
 abbrev pub row_of : Pi → Rows → Option Row
 row_of pi [] = None
 row_of pi (r ∷ rs) = cond (bytes_eq r.0.name pi.name && r.0.arity == pi.arity) (Some r.1) (row_of pi rs)
+
+-- the class of that row
+abbrev pub class_of : Rows → Pi → Option Class
+class_of rs pi = option_map (λ r. r.class) (row_of pi rs)
 
 abbrev pub is_library : Class → Bool
 is_library Library = true
@@ -106,3 +112,22 @@ outside =
 
 unfoldable pub standard : Rows
 standard = control ++ meta ++ safe ++ library ++ outside
+
+-- ---- the rows of each application
+
+-- what a goal tells its client, and what it asks it: pengine_output/1 and pengine_input/2
+abbrev pub is_talk : Pi → Bool
+is_talk pi =
+    (bytes_eq pi.name (codes "pengine_output") && pi.arity == 1) || (bytes_eq pi.name (codes "pengine_input") && pi.arity == 2)
+
+-- no program of School talks with its client
+abbrev pub silenced : Pi × Row → Pi × Row
+silenced r = (r.0, record r.1 { class = cond (is_talk r.0) Outside r.1.class })
+
+abbrev pub plus_and_divmod : Rows
+plus_and_divmod = rows Safe [] 3 ("plus" ∷ []) ++ rows Safe [] 4 ("divmod" ∷ [])
+
+unfoldable pub rows_of_app : App → Rows
+rows_of_app Sandbox = standard
+rows_of_app School = map silenced standard
+rows_of_app Numbers = standard ++ plus_and_divmod

@@ -2,20 +2,20 @@
 //! about them: the error terms, the values of expressions and the results of each primitive.
 #![tactic(auto)]
 
+mod classes;
 mod errors;
 mod functions;
-mod outside;
 mod row;
 mod spelling;
 mod standard;
 mod table;
 
+pub use classes::{class_in, reaches_outside, takes};
 pub use errors::{
     domain_error, error, evaluation_error, existence_error, indicator, instantiation_error,
     representation_error, resource_error, syntax_error, type_error,
 };
 pub use functions::{Binary, Fault, Relation, Unary};
-pub use outside::reaches_outside;
 pub use row::{Class, Row};
 pub use spelling::Spelling;
 pub use table::Table;

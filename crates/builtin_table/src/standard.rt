@@ -118,3 +118,9 @@ pub(crate) static STANDARD: [(&str, u32, Class, [i8; 8]); 83] = [
     ("pengine_rpc", 2, Class::Outside, NONE),
     (":", 2, Class::Outside, NONE),
 ];
+
+// What the table of the application Numbers has besides.
+pub(crate) static PLUS_AND_DIVMOD: [(&str, u32, Class, [i8; 8]); 2] = [
+    ("plus", 3, Class::Safe, NONE),
+    ("divmod", 4, Class::Safe, NONE),
+];

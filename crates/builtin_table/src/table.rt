@@ -1,11 +1,12 @@
-ghost use Rattle.std.specs.Prelude.{◌≡◌, IfOk};
-ghost use Rattle.builtin_table.specs.Table.{standard, row_of, rows_of, reserved_of};
+ghost use Rattle.std.specs.Prelude.{◌≡◌, map, IfOk};
+ghost use Rattle.builtin_table.specs.Table.{standard, plus_and_divmod, rows_of_app, row_of, rows_of, reserved_of, silenced as silenced_row};
 
+use crate::classes::class_in_school;
 use crate::row::{Class, Row};
-use crate::standard::STANDARD;
+use crate::standard::{PLUS_AND_DIVMOD, STANDARD};
 use std::alloc::Global;
 use std::marker::Model;
-use term_core::{Memory, Name, Pi};
+use term_core::{App, Memory, Name, Pi};
 
 /// A table of built-in predicates, which contracts see as the list of its rows, each with its indicator.
 #[derive(Debug, Drop)]
@@ -28,12 +29,20 @@ impl Model for Table {
 }
 
 impl Table {
-    /// The built-in predicates of this Prolog.
-    #[tactic(auto, unfolding(crate::specs::Table::standard))]
+    /// The built-in predicates of an application.
+    pub fn of(alloc: Global, app: App) -> Result<Table, Memory>
+        ensures { IfOk result (λ t. t ≡ rows_of_app app) }
+    {
+        let rows = rows_for(alloc, app)?;
+        let reserved = reserved_in(alloc, &rows)?;
+        Ok(Table { rows, reserved })
+    }
+
+    /// The built-in predicates of `App::Sandbox`.
     pub fn standard(alloc: Global) -> Result<Table, Memory>
         ensures { IfOk result (λ t. t ≡ standard) }
     {
-        let rows = copied(alloc, &STANDARD)?;
+        let rows = standard_rows(alloc)?;
         let reserved = reserved_in(alloc, &rows)?;
         Ok(Table { rows, reserved })
     }
@@ -51,6 +60,53 @@ impl Table {
     {
         &self.reserved
     }
+}
+
+// The rows of an application.
+fn rows_for(alloc: Global, app: App) -> Result<Vec<(Pi, Row)>, Memory>
+    ensures { IfOk result (λ v. v.items ≡ rows_of_app app) }
+{
+    let mut rows = standard_rows(alloc)?;
+    match app {
+        App::Sandbox => Ok(rows),
+        App::School => {
+            let rows = silenced(alloc, rows)?;
+            Ok(rows)
+        }
+        App::Numbers => {
+            let mut others = rows_of_numbers(alloc)?;
+            rows.append(&mut others)?;
+            Ok(rows)
+        }
+    }
+}
+
+#[tactic(auto, unfolding(crate::specs::Table::standard))]
+fn standard_rows(alloc: Global) -> Result<Vec<(Pi, Row)>, Memory>
+    ensures { IfOk result (λ v. v.items ≡ standard) }
+{
+    let rows = copied(alloc, &STANDARD)?;
+    Ok(rows)
+}
+
+fn rows_of_numbers(alloc: Global) -> Result<Vec<(Pi, Row)>, Memory>
+    ensures { IfOk result (λ v. v.items ≡ plus_and_divmod) }
+{
+    let rows = copied(alloc, &PLUS_AND_DIVMOD)?;
+    Ok(rows)
+}
+
+// The rows where no program talks with its client.
+fn silenced(alloc: Global, rows: Vec<(Pi, Row)>) -> Result<Vec<(Pi, Row)>, Memory>
+    ensures { IfOk result (λ v. v.items ≡ map silenced_row rows.items) }
+{
+    let mut silent = Vec::new(alloc);
+    for (pi, row) in rows {
+        let class = class_in_school(&pi, row.class);
+        let metas = row.metas;
+        silent.push((pi, Row { class, metas }))?;
+    }
+    Ok(silent)
 }
 
 // The rows with their indicators as such.

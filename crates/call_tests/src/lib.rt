@@ -4,8 +4,6 @@
 #[cfg(test)]
 mod cells;
 #[cfg(test)]
-mod sessions;
-#[cfg(test)]
 mod streams;
 #[cfg(test)]
 mod terms;

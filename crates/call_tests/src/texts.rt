@@ -7,7 +7,7 @@ use prolog_write::{Mode, WriteStop, argument_text, text};
 use request_text::{ScriptFault, read_script};
 use std::alloc::Global;
 use std::test::Fail;
-use term_core::{Memory, Term};
+use term_core::{App, Memory, Term};
 
 // `Name(a, 'X')`.
 fn pair(alloc: Global, name: &str) -> Result<Term, Memory> {
@@ -47,7 +47,7 @@ fn operators_have_operands(rt: HostRuntime) -> Result<(), Fail> {
 #[test]
 fn a_library_is_read_and_a_script_is_not(rt: HostRuntime) -> Result<(), Fail> {
     let alloc = rt.alloc();
-    let library = Library::read(alloc)?;
+    let library = Library::read(alloc, App::Sandbox)?;
     assert_eq!(rt; library.terms().len(), 68);
     assert_eq!(rt; read_clauses(alloc, source())?.len(), 68);
     for (bytes, place) in [

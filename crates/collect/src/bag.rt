@@ -6,10 +6,10 @@ ghost use Rattle.term_core.specs.Variables.{numbered};
 ghost use Rattle.builtin_table.specs.Solutions.{copies, after_copies};
 ghost use Rattle.store.specs.Cells.{IsCell, tree_of, Keeps};
 ghost use Rattle.tree_offers.specs.Results.{for_arguments, HasPlaces};
-ghost use Rattle.collect.specs.Bags.{offers_by};
+ghost use Rattle.collect.specs.Bags.{offers_by, placed_by};
 
 use crate::numbers::renumbered;
-use prims_tree::{Arrangement, findall_offers, group_offers};
+use prims_tree::{Arrangement, PlacedOffers, placed_findall_offers, placed_group_offers};
 use std::alloc::Global;
 use std::marker::Model;
 use store::{Cell, Store, Taken};
@@ -107,29 +107,19 @@ fn offered(alloc: Global, kind: BagKind, copies: &[Term]) -> Result<Offers, Memo
         ≡ offers_by kind witness list copies.now) }
     ensures places { IfOk result (All (HasPlaces 2)) }
 {
-    let witness = Term::int(alloc, 0)?;
-    let list = Term::int(alloc, 1)?;
-    let results = results(alloc, kind, &witness, &list, copies)?;
-    Ok(Offers::new(alloc, vec![in alloc; witness, list]?, results))
+    let results = results(alloc, kind, copies)?;
+    Ok(Offers::new(alloc, results))
 }
 
-// The results for these arguments.
-fn results(
-    alloc: Global,
-    kind: BagKind,
-    witness: &Term,
-    list: &Term,
-    copies: &[Term],
-) -> Result<prims_tree::Offers, Memory>
-    ensures { IfOk result (λ os. os ≡ offers_by kind witness.now list.now copies.now) }
+// The results over the witness and the list.
+fn results(alloc: Global, kind: BagKind, copies: &[Term]) -> Result<PlacedOffers, Memory>
+    ensures { IfOk result (λ os. os ≡ placed_by kind copies.now) }
 {
     match kind {
-        BagKind::Findall => findall_offers(alloc, list.copied(alloc)?, copies),
+        BagKind::Findall => placed_findall_offers(alloc, copies),
         BagKind::Bagof { witness: _ } => {
-            group_offers(alloc, Arrangement::AsFound, witness, list, copies)
+            placed_group_offers(alloc, Arrangement::AsFound, copies)
         }
-        BagKind::Setof { witness: _ } => {
-            group_offers(alloc, Arrangement::Sorted, witness, list, copies)
-        }
+        BagKind::Setof { witness: _ } => { placed_group_offers(alloc, Arrangement::Sorted, copies) }
     }
 }

@@ -1,18 +1,21 @@
 pub mod Chunks
 pub mod Coming
+pub mod Covering
 pub mod Cutting
 pub mod Ending
 pub mod Growing
+pub mod Hearing
+pub mod Keeping
 pub mod Longer
+pub mod Numbered
 pub mod Parts
-pub mod Pieces
-pub mod Piecewise
 pub mod Prompts
 pub mod Reaching
 pub mod Reading
 pub mod Refusing
 pub mod Resting
 pub mod Rising
+pub mod Readers
 mod Rows
-pub mod Standing
 pub mod Stepping
+pub mod Terms

@@ -66,7 +66,7 @@ module _ (w : World) (ts us : List Tree) where
       ])
       go (Runs h) =
           cut_waited w.limit _ _
-          ((run_grows_on (λ e. e ≡ Waits) (λ e x. inl x) w.limit first second refl refl (waits_further ts us) (omega arith) (λ k. absurd (omega (arith, k))) refl w.limit w.limit 0 (omega arith) (omega arith) (Goal h 1 false ∷ []) (start g t) false unused (omega arith)).1)
+          ((run_grows_on (λ e. e ≡ Waits) (λ e x. inl x) w.limit first second refl refl refl (waits_further ts us) (omega arith) (λ k. absurd (omega (arith, k))) refl w.limit w.limit 0 (omega arith) (omega arith) (Goal h 1 false ∷ []) (start g t) false unused (omega arith)).1)
       go (Throws b) = inl refl
 
 module _ (fits : Tree → Bool) (t : Tree) where
@@ -144,7 +144,7 @@ stops_longer w fits g t rs more =
 
 pub requests_only_add : RequestsOnlyAdd
 unfolding part
-requests_only_add w fits size g t c rs more =
+requests_only_add w fits style g t c rs more =
     let h : Begins (stops fits (replying w rs) g t) (stops fits (replying w (rs ++ more)) g t) = stops_longer w fits g t rs more in
-    subst (λ ps. Begins (part_of size (stops fits (replying w rs) g t) c [] rs).events (part_of size ps c [] (rs ++ more)).events) (sym h.1)
-    (further_only_adds size (stops fits (replying w rs) g t) h.0 c [] rs more)
+    subst (λ ps. Begins (part_of style (stops fits (replying w rs) g t) c [] rs).events (part_of style ps c [] (rs ++ more)).events) (sym h.1)
+    (further_only_adds style (stops fits (replying w rs) g t) h.0 c [] rs more)

@@ -1,5 +1,5 @@
 -- Further requests and further stops lengthen the events of a query.
-use Rattle.std.proofs.Common.{ℕ, Bool, true, false, List, [], ◌∷◌, ◌++◌, Some, None, refl, ap, sym, ◌∙◌, append_assoc, append-nil}
+use Rattle.std.proofs.Common.{ℕ, Bool, true, false, List, [], ◌∷◌, ◌++◌, Option, Some, None, refl, ap, sym, ◌∙◌, append_assoc, append-nil}
 use Rattle.term_core.specs.Tree.{Tree}
 use Rattle.solve_model.specs.declared.answers.TraceMark.{TraceMark}
 use Rattle.event_core.specs.declared.stop.Stop.{Stop}
@@ -8,7 +8,7 @@ use Rattle.event_core.specs.declared.event.Event.TheVariants.{Success}
 use Rattle.event_core.specs.declared.request.Request.{Request}
 use Rattle.event_core.specs.declared.request.Request.TheVariants.{Ask, Next, Stop as Stops, Respond}
 use Rattle.event_core.specs.Stops.{is_followed, stops_of, cut_at, stop_fits, resource_error}
-use Rattle.event_core.specs.Parts.{Part, gives, at_next, at_respond, after_chunk, is_full, part_of, part_step}
+use Rattle.event_core.specs.Parts.{Part, Style, gives, at_next, at_respond, after_chunk, is_full, part_of, part_step}
 use Rattle.event_core.specs.Laws.{Begins, FurtherOnlyAdds}
 
 module _ {A : Type 0} where
@@ -63,32 +63,32 @@ respond_grows (Next c ∷ rs) more go go' h = begins_none _
 respond_grows (Ask a ∷ rs) more go go' h = begins_none _
 respond_grows (Stops ∷ rs) more go go' h = begins_none _
 
-chunk_grows : (held : List Tree) (k c : ℕ) (rs more : List Request) (go go' : ℕ → List Request → Part) → ((d : ℕ) (qs : List Request) → Grows (go d qs) (go' d (qs ++ more))) → Grows (after_chunk held k c rs go) (after_chunk held k c (rs ++ more) go')
-chunk_grows [] k c rs more go go' h = h c rs
-chunk_grows (t ∷ ts) k c rs more go go' h = begins_cons _ _ _ (next_grows rs more c go go' h)
+chunk_grows : (ns : Option (List (List ℕ))) (held : List Tree) (k c : ℕ) (rs more : List Request) (go go' : ℕ → List Request → Part) → ((d : ℕ) (qs : List Request) → Grows (go d qs) (go' d (qs ++ more))) → Grows (after_chunk ns held k c rs go) (after_chunk ns held k c (rs ++ more) go')
+chunk_grows ns [] k c rs more go go' h = h c rs
+chunk_grows ns (t ∷ ts) k c rs more go go' h = begins_cons _ _ _ (next_grows rs more c go go' h)
 
-module _ (size : Tree → ℕ) (f f' : ℕ → List Tree → List Request → Part) (more : List Request) (ih : (c : ℕ) (held : List Tree) (rs : List Request) → Grows (f c held rs) (f' c held (rs ++ more))) where
-  step_grows : (k : ℕ) (s : Stop) (c : ℕ) (held : List Tree) (rs : List Request) → Grows (part_step size f k s c held rs) (part_step size f' k s c held (rs ++ more))
+module _ (style : Style) (f f' : ℕ → List Tree → List Request → Part) (more : List Request) (ih : (c : ℕ) (held : List Tree) (rs : List Request) → Grows (f c held rs) (f' c held (rs ++ more))) where
+  step_grows : (k : ℕ) (s : Stop) (c : ℕ) (held : List Tree) (rs : List Request) → Grows (part_step style f k s c held rs) (part_step style f' k s c held (rs ++ more))
   unfolding part_step
   step_grows k (Found t false) c held rs = begins_self _
-  step_grows k (Found t true) c held rs = at (is_full size c (held ++ t ∷ []))
+  step_grows k (Found t true) c held rs = at (is_full style.size c (held ++ t ∷ []))
     where
       at : (b : Bool) → Grows
-          (elim b as (λ y. Part) [ true ↦ gives k (Success (held ++ t ∷ []) true) (at_next rs c (λ d qs. f d [] qs)) | false ↦ f c (held ++ t ∷ []) rs ])
-          (elim b as (λ y. Part) [ true ↦ gives k (Success (held ++ t ∷ []) true) (at_next (rs ++ more) c (λ d qs. f' d [] qs)) | false ↦ f' c (held ++ t ∷ []) (rs ++ more) ])
+          (elim b as (λ y. Part) [ true ↦ gives k (Success (held ++ t ∷ []) style.names true) (at_next rs c (λ d qs. f d [] qs)) | false ↦ f c (held ++ t ∷ []) rs ])
+          (elim b as (λ y. Part) [ true ↦ gives k (Success (held ++ t ∷ []) style.names true) (at_next (rs ++ more) c (λ d qs. f' d [] qs)) | false ↦ f' c (held ++ t ∷ []) (rs ++ more) ])
       at true = begins_cons _ _ _ (next_grows rs more c (λ d qs. f d [] qs) (λ d qs. f' d [] qs) (λ d qs. ih d [] qs))
       at false = ih c (held ++ t ∷ []) rs
   step_grows k (Output t) c held rs = begins_cons _ _ _ (ih c held rs)
   step_grows k (Prompt t) c held rs =
-      chunk_grows held k c rs more _ _ (λ d qs. begins_cons _ _ _ (respond_grows qs more (λ xs. f d [] xs) (λ xs. f' d [] xs) (λ xs. ih d [] xs)))
+      chunk_grows style.names held k c rs more _ _ (λ d qs. begins_cons _ _ _ (respond_grows qs more (λ xs. f d [] xs) (λ xs. f' d [] xs) (λ xs. ih d [] xs)))
   step_grows k NoMore c [] rs = begins_self _
   step_grows k NoMore c (t ∷ ts) rs = begins_self _
-  step_grows k (Ball b) c held rs = chunk_grows held k c rs more _ _ (λ d qs. begins_self _)
-  step_grows k Limit c held rs = chunk_grows held k c rs more _ _ (λ d qs. begins_self _)
+  step_grows k (Ball b) c held rs = chunk_grows style.names held k c rs more _ _ (λ d qs. begins_self _)
+  step_grows k Limit c held rs = chunk_grows style.names held k c rs more _ _ (λ d qs. begins_self _)
   step_grows k (Outside i) c held rs = begins_none _
 
 pub further_only_adds : FurtherOnlyAdds
 unfolding part_of
-further_only_adds size [] qs c held rs more = begins_none _
-further_only_adds size (p ∷ ps) qs c held rs more =
-    step_grows size (part_of size ps) (part_of size (ps ++ qs)) more (λ d hs xs. further_only_adds size ps qs d hs xs more) p.0 p.1 c held rs
+further_only_adds style [] qs c held rs more = begins_none _
+further_only_adds style (p ∷ ps) qs c held rs more =
+    step_grows style (part_of style ps) (part_of style (ps ++ qs)) more (λ d hs xs. further_only_adds style ps qs d hs xs more) p.0 p.1 c held rs

@@ -5,7 +5,7 @@ use Rattle.std.proofs.lemmas.Bool.{lt-ltb, le-ltb, cases_lt}
 use Rattle.std.proofs.lemmas.List.Elements.{All-from_recursion}
 use Rattle.term_core.specs.Tree.{Tree}
 use Rattle.term_core.specs.Variables.{numbered}
-use Rattle.program.specs.Clauses.{Clause}
+use Rattle.program.specs.Loaded.{Loaded}
 use Rattle.solve_model.specs.Goals.{Ready, Runs, Throws, ready}
 use Rattle.solve_model.specs.Run.{Mark, End, Failed, Cut, Thrown, Waits, Spent, Outside, Used, Ran, Goal, ends, after, at_cut, run, start, unused, query}
 use Rattle.solve_model.specs.Trace.{world_of, mark_shown, marks_shown, end_shown, traced}
@@ -49,7 +49,7 @@ cut_goes_on n a b (inr g) = inr (record {
   later = (subst (λ (u : Used). n < u.steps) (sym (cut_quiet b.end b.used).1) (g.later g.stopped).0, (g.later g.stopped).1);
 })
 
-module _ (cs : List Clause) (ts : List Tree) (g t : Tree) where
+module _ (cs : Loaded) (ts : List Tree) (g t : Tree) where
   abbrev at : ℕ → Ran
   at n = query (world_of cs ts n) g t
 
@@ -72,7 +72,7 @@ module _ (cs : List Clause) (ts : List Tree) (g t : Tree) where
       ])
       go (Runs k) =
           cut_goes_on n _ _
-          ((run_grows_on (λ e. e ≡ Spent) (λ e x. inr x) n (world_of cs ts n) (world_of cs ts l) refl refl (λ i. inl refl) h (λ i. refl) refl n l 0 (omega arith) (omega arith) (Goal k 1 false ∷ []) (start g t) false unused (omega arith)).1)
+          ((run_grows_on (λ e. e ≡ Spent) (λ e x. inr x) n (world_of cs ts n) (world_of cs ts l) refl refl refl (λ i. inl refl) h (λ i. refl) refl n l 0 (omega arith) (omega arith) (Goal k 1 false ∷ []) (start g t) false unused (omega arith)).1)
       go (Throws b) = inl refl
 
   -- within the limit
@@ -192,7 +192,7 @@ module _ (fits : Tree → Bool) (t : Tree) (P : ℕ → Type 0) where
 
 -- ---- a query with fewer steps than its limit
 
-module _ (cs : List Clause) (rs : List Tree) (g t : Tree) (fits : Tree → Bool) where
+module _ (cs : Loaded) (rs : List Tree) (g t : Tree) (fits : Tree → Bool) where
   abbrev pub ran : ℕ → Ran
   ran n = query (world_of cs rs n) g t
 

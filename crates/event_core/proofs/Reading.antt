@@ -16,12 +16,12 @@ use Rattle.event_core.specs.Laws.{Begins}
 use Rattle.event_core.proofs.Parts.{begins_self, begins_trans}
 use Rattle.event_core.proofs.Resting.{rests}
 
-begins_more : {A : Type 0} (xs ys zs : List A) → Begins (xs ++ ys) zs → Begins xs zs
+pub begins_more : {A : Type 0} (xs ys zs : List A) → Begins (xs ++ ys) zs → Begins xs zs
 begins_more xs ys zs h = begins_trans xs (xs ++ ys) zs (ys, refl) h
 
 -- What was emitted stays
 
-closes_grows : (b : Bool) (es : List Event) → Begins es (closes b es).emitted
+pub closes_grows : (b : Bool) (es : List Event) → Begins es (closes b es).emitted
 closes_grows true es = (event.Destroy ∷ [], refl)
 closes_grows false es = begins_self es
 
@@ -50,12 +50,12 @@ starts_grows spec (request.Next c) es = (event.Protocol (kind_of (request.Next c
 starts_grows spec request.Stop es = (event.Protocol (kind_of request.Stop) ∷ [], refl)
 starts_grows spec (request.Respond t) es = (event.Protocol (kind_of (request.Respond t)) ∷ [], refl)
 
-consumes_grows : (spec : Spec) (r : Request) (p : Place) (es : List Event) → Begins es (consumes_at spec r p es).emitted
+pub consumes_grows : (spec : Spec) (r : Request) (p : Place) (es : List Event) → Begins es (consumes_at spec r p es).emitted
 consumes_grows spec r Free es = starts_grows spec r es
 consumes_grows spec r (In q g) es = fitted_grows spec q g r (fit (part_of spec q).rest r) es
 consumes_grows spec r Closed es = begins_self es
 
-reads_grows : (spec : Spec) (rs : List Request) (x : Reading) → Begins x.emitted (reads spec rs x).emitted
+pub reads_grows : (spec : Spec) (rs : List Request) (x : Reading) → Begins x.emitted (reads spec rs x).emitted
 unfolding reads
 reads_grows spec [] x = begins_self x.emitted
 reads_grows spec (r ∷ rs) x =

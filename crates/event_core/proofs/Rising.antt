@@ -15,10 +15,10 @@ use Rattle.event_core.specs.declared.stop.Stop.{Stop}
 use Rattle.event_core.specs.declared.stop.Stop.TheVariants.{Ball}
 use Rattle.event_core.specs.declared.request.Request.{Request}
 use Rattle.event_core.specs.Stops.{mark_stop, is_followed, at_end, end_stop, stops_of, resource_error, stop_fits, cut_at, stops}
-use Rattle.event_core.specs.Parts.{part_of, part, replies}
+use Rattle.event_core.specs.Parts.{Style, part_of, part, replies}
 use Rattle.event_core.specs.Laws.{StepsNeverFall}
 use Rattle.event_core.proofs.Reaching.{Each}
-use Rattle.event_core.proofs.Piecewise.{events_each, step_keeps}
+use Rattle.event_core.proofs.Keeping.{events_each, step_keeps}
 
 abbrev Marks : Type 0
 Marks = List (ℕ × Mark)
@@ -138,6 +138,7 @@ rising_kept w = record {
   at_answers = λ u a a' k k' h ps ps' step. after_rising u (without_answers a) (k a.marks) (outer_rising u a h) (at_stop (k a.marks) a.end a.used (ps a.marks) (λ x. step a.marks a.end x a.used));
   same_clauses = refl;
   same_primitive = refl;
+  same_outside = refl;
 }
 
 -- after one step more
@@ -208,12 +209,12 @@ module _ (fits : Tree → Bool) (t : Tree) where
       by true g = ((h.0.0, weaker (λ i. p.0 ≤ i) (λ i. n ≤ i) (λ i q. omega (arith, q, h.0.0)) _ g.0), g)
       by false g = ((h.0.0, tt), (tt, tt))
 
-events_rise : (size : Tree → ℕ) (ps : List (ℕ × Stop)) → Rises ps → (c : ℕ) (held : List Tree) (rs : List Request) → Rises (part_of size ps c held rs).events
+events_rise : (style : Style) (ps : List (ℕ × Stop)) → Rises ps → (c : ℕ) (held : List Tree) (rs : List Request) → Rises (part_of style ps c held rs).events
 unfolding part_of Rises
-events_rise size [] h c held rs = tt
-events_rise size (p ∷ ps) h c held rs =
-    (step_keeps p.0 (λ q. From p.0 q.events × Rises q.events) (λ r qs. (tt, tt)) (λ e q g. ((omega arith, g.0), g)) size (part_of size ps)
-    (λ d hs qs. (events_each (λ k. p.0 ≤ k) size ps h.0 d hs qs, events_rise size ps h.1 d hs qs)) p.1 c held rs).1
+events_rise style [] h c held rs = tt
+events_rise style (p ∷ ps) h c held rs =
+    (step_keeps p.0 (λ q. From p.0 q.events × Rises q.events) (λ r qs. (tt, tt)) (λ e q g. ((omega arith, g.0), g)) style (part_of style ps)
+    (λ d hs qs. (events_each (λ k. p.0 ≤ k) style ps h.0 d hs qs, events_rise style ps h.1 d hs qs)) p.1 c held rs).1
 
 stops_rise : (w : World) (fits : Tree → Bool) (g t : Tree) → Rises (stops fits w g t)
 stops_rise w fits g t =
@@ -225,5 +226,5 @@ stops_rise w fits g t =
 
 pub steps_never_fall : StepsNeverFall
 unfolding part
-steps_never_fall w fits size g t c rs =
-    pairs (part w fits size g t c rs).events (events_rise size (stops fits (record w { replies = replies rs }) g t) (stops_rise (record w { replies = replies rs }) fits g t) c [] rs)
+steps_never_fall w fits style g t c rs =
+    pairs (part w fits style g t c rs).events (events_rise style (stops fits (record w { replies = replies rs }) g t) (stops_rise (record w { replies = replies rs }) fits g t) c [] rs)

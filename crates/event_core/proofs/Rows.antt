@@ -1,5 +1,5 @@
 -- Worked rows, computed from the stops of a query.
-use Rattle.std.specs.Prelude.{◌≡◌, refl, ℕ, Bool, true, false, List, [], ◌∷◌, None, codes}
+use Rattle.std.specs.Prelude.{◌≡◌, refl, ℕ, Bool, true, false, List, [], ◌∷◌, map, Some, None, codes}
 use Rattle.term_core.specs.Tree.{Tree, atom}
 use Rattle.builtin_table.specs.Errors.{one_argument}
 use Rattle.event_core.specs.declared.stop.Stop.{Stop}
@@ -11,8 +11,8 @@ use Rattle.event_core.specs.declared.request.Request.{Request}
 use Rattle.event_core.specs.declared.request.Request.TheVariants.{Ask, Next, Stop as Stops, Respond}
 use Rattle.event_core.specs.declared.rest.Rest.TheVariants.{More, Over}
 use Rattle.event_core.specs.Stops.{cut_at, resource_error}
-use Rattle.event_core.specs.Parts.{Part, part_of, part_step}
-use Rattle.event_core.specs.Full.{Spec, Sends, Struck, ByAbort, ByDestroy, ByWant, full, full_from, reads, sends}
+use Rattle.event_core.specs.Parts.{Part, Style, part_of, part_step}
+use Rattle.event_core.specs.Full.{Spec, Act, Sends, Struck, ByAbort, ByDestroy, ByWant, full, full_from, reads}
 
 abbrev a_of : List ℕ → Tree
 a_of f = atom f
@@ -37,29 +37,39 @@ unfoldable opened : Unit {0}
 unfolding part_of part_step cut_at full_from reads
 opened = tt
 
+-- each text has n bytes
+abbrev plain : ℕ → Style
+plain n = record { size = λ t. n; names = None }
+
 abbrev read : List (ℕ × Stop) → ℕ → List Request → Part
-read ps c rs = part_of (λ t. 1) ps c [] rs
+read ps c rs = part_of (plain 1) ps c [] rs
 
 abbrev over : List (ℕ × Event) → Part
 over es = record { events = es; rest = Over; unread = [] }
 
-by_one : read three 1 (Next None ∷ Next None ∷ []) ≡ over ((2, Success (pa ∷ []) true) ∷ (3, Success (pb ∷ []) true) ∷ (4, Success (pc ∷ []) false) ∷ [])
+by_one : read three 1 (Next None ∷ Next None ∷ []) ≡ over ((2, Success (pa ∷ []) None true) ∷ (3, Success (pb ∷ []) None true) ∷ (4, Success (pc ∷ []) None false) ∷ [])
 unfolding opened
 by_one = refl
 
 -- before the second `next`
-rests_between : read three 1 (Next None ∷ []) ≡ record { events = (2, Success (pa ∷ []) true) ∷ (3, Success (pb ∷ []) true) ∷ []; rest = More; unread = [] }
+rests_between : read three 1 (Next None ∷ []) ≡ record { events = (2, Success (pa ∷ []) None true) ∷ (3, Success (pb ∷ []) None true) ∷ []; rest = More; unread = [] }
 unfolding opened
 rests_between = refl
 
-by_two : read three 2 (Next None ∷ []) ≡ over ((3, Success (pa ∷ pb ∷ []) true) ∷ (4, Success (pc ∷ []) false) ∷ [])
+by_two : read three 2 (Next None ∷ []) ≡ over ((3, Success (pa ∷ pb ∷ []) None true) ∷ (4, Success (pc ∷ []) None false) ∷ [])
 unfolding opened
 by_two = refl
 
 -- a chunk that is full of text
-by_bytes : part_of (λ t. 600000) three 5 [] (Next None ∷ []) ≡ over ((3, Success (pa ∷ pb ∷ []) true) ∷ (4, Success (pc ∷ []) false) ∷ [])
+by_bytes : part_of (plain 600000) three 5 [] (Next None ∷ []) ≡ over ((3, Success (pa ∷ pb ∷ []) None true) ∷ (4, Success (pc ∷ []) None false) ∷ [])
 unfolding opened
 by_bytes = refl
+
+-- the names stand with each chunk
+named : part_of (record { size = λ t. 1; names = Some (codes "X" ∷ []) }) three 2 [] (Next None ∷ [])
+    ≡ over ((3, Success (pa ∷ pb ∷ []) (Some (codes "X" ∷ [])) true) ∷ (4, Success (pc ∷ []) (Some (codes "X" ∷ [])) false) ∷ [])
+unfolding opened
+named = refl
 
 fails : read ((1, NoMore) ∷ []) 1 [] ≡ over ((1, Failure) ∷ [])
 unfolding opened
@@ -69,7 +79,7 @@ fails = refl
 abbrev oops : Tree
 oops = atom (codes "oops")
 
-late_ball : read ((2, Found pa true) ∷ (3, Found pb true) ∷ (4, Ball oops) ∷ []) 5 (Next None ∷ []) ≡ over ((4, Success (pa ∷ pb ∷ []) true) ∷ (4, Error oops) ∷ [])
+late_ball : read ((2, Found pa true) ∷ (3, Found pb true) ∷ (4, Ball oops) ∷ []) 5 (Next None ∷ []) ≡ over ((4, Success (pa ∷ pb ∷ []) None true) ∷ (4, Error oops) ∷ [])
 unfolding opened
 late_ball = refl
 
@@ -78,7 +88,7 @@ unfolding opened
 out_of_steps = refl
 
 -- an output leaves the chunk open, a prompt closes it
-outputs : read ((1, Found pa true) ∷ (2, Told oops) ∷ (3, Asked oops) ∷ (4, Found pb false) ∷ []) 5 (Next None ∷ Respond pc ∷ []) ≡ over ((2, Output oops) ∷ (3, Success (pa ∷ []) true) ∷ (3, Prompt oops) ∷ (4, Success (pb ∷ []) false) ∷ [])
+outputs : read ((1, Found pa true) ∷ (2, Told oops) ∷ (3, Asked oops) ∷ (4, Found pb false) ∷ []) 5 (Next None ∷ Respond pc ∷ []) ≡ over ((2, Output oops) ∷ (3, Success (pa ∷ []) None true) ∷ (3, Prompt oops) ∷ (4, Success (pb ∷ []) None false) ∷ [])
 unfolding opened
 outputs = refl
 
@@ -89,30 +99,33 @@ cuts = refl
 
 -- a pengine each of whose queries has these stops
 abbrev over_stops : Bool → List (ℕ × Stop) → Spec
-over_stops d ps = record { destroys = d; refusal = λ a. None; part = λ a rs. part_of (λ t. 1) ps 1 [] rs }
+over_stops d ps = record { destroys = d; refusal = λ a. None; part = λ a rs. read ps 1 rs }
 
 abbrev ask : Request
-ask = Ask (record { goal = pa; template = pa; chunk = 0; bytes = 0 })
+ask = Ask (record { goal = pa; template = pa; names = []; chunk = 0; bytes = 0 })
+
+abbrev sends : List Request → List Act
+sends rs = map Sends rs
 
 -- a request that doesn't fit leaves the state
-misfits : full (over_stops false ((1, Found pa false) ∷ [])) (sends (Next None ∷ ask ∷ [])) ≡ Create ∷ Protocol kind.Next ∷ Success (pa ∷ []) false ∷ []
+misfits : full (over_stops false ((1, Found pa false) ∷ [])) (sends (Next None ∷ ask ∷ [])) ≡ Create ∷ Protocol kind.Next ∷ Success (pa ∷ []) None false ∷ []
 unfolding opened
 misfits = refl
 
-misfits_in_query : full (over_stops true three) (sends (ask ∷ ask ∷ Respond pa ∷ Next None ∷ [])) ≡ Create ∷ Success (pa ∷ []) true ∷ Protocol kind.Ask ∷ Protocol kind.Respond ∷ Success (pb ∷ []) true ∷ []
+misfits_in_query : full (over_stops true three) (sends (ask ∷ ask ∷ Respond pa ∷ Next None ∷ [])) ≡ Create ∷ Success (pa ∷ []) None true ∷ Protocol kind.Ask ∷ Protocol kind.Respond ∷ Success (pb ∷ []) None true ∷ []
 unfolding opened
 misfits_in_query = refl
 
-stops : full (over_stops true three) (sends (ask ∷ Stops ∷ Next None ∷ [])) ≡ Create ∷ Success (pa ∷ []) true ∷ Stopped ∷ Destroy ∷ []
+stops : full (over_stops true three) (sends (ask ∷ Stops ∷ Next None ∷ [])) ≡ Create ∷ Success (pa ∷ []) None true ∷ Stopped ∷ Destroy ∷ []
 unfolding opened
 stops = refl
 
 -- an abort drops the requests before it, and not those after it
-aborts : full (over_stops false three) (Sends ask ∷ Sends (Next None) ∷ Struck ByAbort 1 2 1 ∷ Sends (Next None) ∷ []) ≡ Create ∷ Success (pa ∷ []) true ∷ Abort ∷ Protocol kind.Next ∷ []
+aborts : full (over_stops false three) (Sends ask ∷ Sends (Next None) ∷ Struck ByAbort 1 2 1 ∷ Sends (Next None) ∷ []) ≡ Create ∷ Success (pa ∷ []) None true ∷ Abort ∷ Protocol kind.Next ∷ []
 unfolding opened
 aborts = refl
 
 -- want of memory between two answers, and a destroy
-wants : full (over_stops false three) (Sends ask ∷ Sends (Next None) ∷ Struck ByWant 2 2 1 ∷ Struck ByDestroy 2 2 1 ∷ []) ≡ Create ∷ Success (pa ∷ []) true ∷ Memory ∷ Destroy ∷ []
+wants : full (over_stops false three) (Sends ask ∷ Sends (Next None) ∷ Struck ByWant 2 2 1 ∷ Struck ByDestroy 2 2 1 ∷ []) ≡ Create ∷ Success (pa ∷ []) None true ∷ Memory ∷ Destroy ∷ []
 unfolding opened
 wants = refl

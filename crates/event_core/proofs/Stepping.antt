@@ -1,4 +1,4 @@
--- Requests are answered one at a time.
+-- What a request brings doesn't depend on what was emitted before.
 use Rattle.std.proofs.Common.{◌≡◌, ℕ, Bool, true, false, List, [], ◌∷◌, ◌++◌, length, Option, Some, None, refl, ap, sym, ◌∙◌, append_assoc, append-nil}
 use Rattle.term_core.specs.Tree.{Tree}
 use Rattle.event_core.specs.declared.event.Event.{Event}
@@ -10,7 +10,7 @@ use Rattle.event_core.specs.declared.fit.Fit.TheVariants.{GoesOn, Stops, Misfit}
 use Rattle.event_core.specs.declared.rest.Rest.{Rest}
 use Rattle.event_core.specs.declared.rest.Rest.TheVariants.{More, Prompting, Over}
 use Rattle.event_core.specs.Requests.{fit}
-use Rattle.event_core.specs.Full.{Spec, Query, part_of, events_of, span, Place, Free, In, Closed, Reading, at, closes, comes_to, gives_all_at, gives_all, fitted, asks, consumes_at, consumes, step, reads, full_from, sends, brings, made, FullIsBrought}
+use Rattle.event_core.specs.Full.{Spec, Query, part_of, events_of, span, Place, Free, In, Closed, Reading, at, closes, comes_to, gives_all_at, gives_all, fitted, asks, consumes_at, consumes, step, reads}
 use Rattle.event_core.proofs.Resting.{rests}
 
 -- these events first
@@ -63,27 +63,3 @@ module _ (spec : Spec) where
   step_front r p es =
       ap (gives_all spec) (consumes_front r p es)
       ∙ gives_all_front (consumes_at spec r p []).place es (consumes_at spec r p []).emitted
-
-  -- from a rest
-  brought : (rs : List Request) (p : Place) (es : List Event) → gives_all_at spec p es ≡ at p es → (gives_all spec (reads spec rs (at p es))).emitted ≡ es ++ brings spec rs p
-  unfolding reads
-  brought [] p es h = ap (λ (x : Reading). x.emitted) h ∙ sym (append-nil es)
-  brought (r ∷ rs) p es h =
-      let x : Reading = step spec r p in
-      let moved : gives_all spec (consumes_at spec r p es) ≡ front es x = step_front r p es in
-      let settled : gives_all spec (front es x) ≡ front es x =
-      ap (gives_all spec) (sym moved) ∙ rests spec (consumes_at spec r p es).place (consumes_at spec r p es).emitted ∙ moved in
-      ap (λ (y : Reading). (gives_all spec (reads spec rs (consumes spec r y))).emitted) h
-      ∙ ap (λ (y : Reading). y.emitted) (given_first rs (consumes_at spec r p es))
-      ∙ ap (λ y. (gives_all spec (reads spec rs y)).emitted) moved
-      ∙ brought rs x.place (es ++ x.emitted) settled
-      ∙ append_assoc es x.emitted (brings spec rs x.place)
-
-  sent : (rs before : List Request) (c : ℕ) (x : Reading) → full_from spec (sends rs) before c x ≡ (gives_all spec (reads spec (before ++ rs) x)).emitted
-  unfolding full_from
-  sent [] before c x = ap (λ l. (gives_all spec (reads spec l x)).emitted) (sym (append-nil before))
-  sent (r ∷ rs) before c x =
-      sent rs (before ++ r ∷ []) c x ∙ ap (λ l. (gives_all spec (reads spec l x)).emitted) (append_assoc before (r ∷ []) rs)
-
-pub full_is_brought : FullIsBrought
-full_is_brought spec rs = sent spec rs [] 0 made ∙ brought spec rs Free (event.Create ∷ []) refl

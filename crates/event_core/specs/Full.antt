@@ -1,5 +1,5 @@
 -- The full list of events that resolution defines for what was sent to a pengine and what struck it (Lager and Wielemaker, TPLP 2014, section 3).
-use Rattle.std.specs.Prelude.{◌≡◌, ℕ, ◌-◌, Bool, true, false, List, [], ◌∷◌, ◌++◌, map, length, nat_le, if◌then◌else◌, Option, Some, None, take, drop}
+use Rattle.std.specs.Prelude.{ℕ, ◌-◌, Bool, true, false, List, [], ◌∷◌, ◌++◌, map, length, nat_le, if◌then◌else◌, Option, Some, None, take, drop}
 use Rattle.term_core.specs.Tree.{Tree}
 use Rattle.event_core.specs.declared.event.Event.{Event}
 use Rattle.event_core.specs.declared.event.Event.TheVariants as event
@@ -152,16 +152,3 @@ made = at Free (event.Create ∷ [])
 
 abbrev pub full : Spec → List Act → List Event
 full spec acts = full_from spec acts [] 0 made
-
--- the acts that send these requests
-abbrev pub sends : List Request → List Act
-sends rs = map Sends rs
-
--- the events that these requests bring, one after the other, from a place of rest
-abbrev pub brings : Spec → List Request → Place → List Event
-brings spec [] p = []
-brings spec (r ∷ rs) p = let x : Reading = step spec r p in x.emitted ++ brings spec rs x.place
-
--- Where nothing strikes, the full list is `create` and what the requests bring.
-abbrev pub FullIsBrought : Type 0
-FullIsBrought = (spec : Spec) (rs : List Request) → full spec (sends rs) ≡ event.Create ∷ brings spec rs Free

@@ -30,7 +30,7 @@ module _ (argument : Tree → List ℕ) where
 
   abbrev pub line_of : Event → List ℕ
   line_of event.Create = codes "create"
-  line_of (event.Success ts more) = codes "success([" ++ list_text ts ++ codes "]," ++ bool_text more ++ codes ")"
+  line_of (event.Success ts names more) = codes "success([" ++ list_text ts ++ codes "]," ++ bool_text more ++ codes ")"
   line_of event.Failure = codes "failure"
   line_of (event.Error t) = codes "error(" ++ argument t ++ codes ")"
   line_of (event.Protocol k) = codes "error(protocol_error(" ++ kind_text k ++ codes "))"

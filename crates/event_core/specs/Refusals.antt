@@ -1,14 +1,13 @@
 -- The error of a goal that the sandbox refuses, as an event tells it.
-use Rattle.std.specs.Prelude.{Bool, true, false, if◌then◌else◌, List, Option}
+use Rattle.std.specs.Prelude.{Bool, true, false, if◌then◌else◌, Option}
 use Rattle.std.specs.Option.{option_map}
 use Rattle.term_core.specs.Tree.{Tree}
 use Rattle.term_core.specs.Variables.{numbered}
 use Rattle.builtin_table.specs.Errors.{error_term, no_context}
-use Rattle.builtin_table.specs.Table.{standard}
-use Rattle.program.specs.Clauses.{Clause}
+use Rattle.program.specs.Loaded.{Loaded}
 use Rattle.sandbox_walk.specs.declared.unsafe_goal.Unsafe.{Unsafe}
 use Rattle.sandbox_walk.specs.declared.unsafe_goal.Unsafe.TheVariants.{Sandboxed, Uninstantiated, NotCallable, Memory}
-use Rattle.sandbox_walk.specs.Computed.{verdict}
+use Rattle.sandbox_walk.specs.Computed.{verdict_over}
 use Rattle.sandbox_walk.specs.Formal.{formal_of}
 use Rattle.event_core.specs.declared.request.Ask.{Ask}
 use Rattle.event_core.specs.Texts.{quoted}
@@ -33,6 +32,6 @@ is_verdict Uninstantiated = true
 is_verdict (NotCallable t) = true
 is_verdict Memory = false
 
--- the error of a goal that the sandbox refuses over these clauses
-unfoldable pub refusal_of : List Clause → Ask → Option Tree
-refusal_of cs a = option_map refused (verdict standard cs a.goal)
+-- the error of a goal that the sandbox refuses over this program
+unfoldable pub refusal_of : Loaded → Ask → Option Tree
+refusal_of l a = option_map refused (verdict_over l a.goal)

@@ -37,8 +37,8 @@ asking t s = record s { prompts = t ∷ s.prompts }
 
 -- one event, then the others
 abbrev pub told : Event → Summary → Summary
-told (event.Success ts true) s = answering ts s
-told (event.Success ts false) s = answering ts (only NoneLeft)
+told (event.Success ts names true) s = answering ts s
+told (event.Success ts names false) s = answering ts (only NoneLeft)
 told event.Failure s = only NoneLeft
 told (event.Error b) s = only (Threw b)
 told event.Limit s = only OutOfSteps

@@ -1,4 +1,4 @@
-use term_core::{List, Term};
+use term_core::{List, Name, Term};
 
 /// Which kind of request didn't fit.
 #[derive(Clone, Copy, Debug, Drop, PartialEq, Eq)]
@@ -14,8 +14,17 @@ pub enum Kind {
 pub enum Event {
     /// The pengine was made.
     Create,
-    /// A chunk of answers; `more` tells whether an alternative is left.
-    Success { answers: List<Term>, more: bool },
+    /// A chunk of answers.
+    Success {
+        /// Instances of the query's template; of a pengine with names each is `'$answer'(T,[V1,..,Vk])`, T being the instance and
+        /// V1 to Vk what the query's variables stand for that have names. A chunk and each of its terms number their variables
+        /// by themselves.
+        answers: List<Term>,
+        /// The names of V1 to Vk; `None` for a pengine that was made without names.
+        names: Option<List<Name>>,
+        /// Whether an alternative is left.
+        more: bool,
+    },
     /// The query has no answer, or no further one.
     Failure,
     /// A ball that nothing caught, or the refusal of a goal.
@@ -36,4 +45,44 @@ pub enum Event {
     Limit,
     /// The query ended by want of memory.
     Memory,
+}
+
+/// What an event is called. A protocol error is told as an error.
+#[derive(Clone, Copy, Debug, Drop, PartialEq, Eq)]
+pub enum EventName {
+    Create,
+    Success,
+    Failure,
+    Error,
+    Output,
+    Prompt,
+    Stop,
+    Abort,
+    Destroy,
+    Limit,
+    Memory,
+}
+
+impl Event {
+    ghost use Rattle.std.specs.Prelude.{◌≡◌};
+    ghost use Rattle.event_core.specs.Local.{name_of};
+
+    /// What it is called.
+    pub fn name(&self) -> EventName
+        ensures { result ≡ name_of self.now }
+    {
+        match self {
+            Event::Create => EventName::Create,
+            Event::Success { .. } => EventName::Success,
+            Event::Failure => EventName::Failure,
+            Event::Error(_) | Event::Protocol(_) => EventName::Error,
+            Event::Output(_) => EventName::Output,
+            Event::Prompt(_) => EventName::Prompt,
+            Event::Stop => EventName::Stop,
+            Event::Abort => EventName::Abort,
+            Event::Destroy => EventName::Destroy,
+            Event::Limit => EventName::Limit,
+            Event::Memory => EventName::Memory,
+        }
+    }
 }

@@ -1,5 +1,8 @@
 // Laws that hold of the events of every query.
-ghost use Rattle.event_core.specs.Laws.{FurtherOnlyAdds, RequestsOnlyAdd, StepsOnlyAdd, ChunksDontMatter, EnoughCanBeAsked, StepsNeverFall, AskedGoalsStayInside};
+ghost use Rattle.event_core.specs.Laws.{FurtherOnlyAdds, RequestsOnlyAdd, StepsOnlyAdd, ChunksDontMatter, EnoughCanBeAsked, StepsNeverFall, AskedGoalsStayInside, EventsOnlyGrow};
+ghost use Rattle.event_core.specs.Local.{ReadsAreLocal, AskedReadsAreLocal};
+ghost use Rattle.event_core.specs.Readers.{RestsAsThePart};
+ghost use Rattle.event_core.specs.Terms.{TermsAreNumbered};
 
 /// Further requests and further stops only add: the events that were given stay.
 pub fn further_only_adds()
@@ -34,4 +37,29 @@ pub fn steps_never_fall()
 /// Over a program that keeps to the sandbox no goal that may be asked reaches outside, for each limit of steps and whatever is replied.
 pub fn asked_goals_stay_inside()
     ensures { AskedGoalsStayInside }
+{}
+
+/// Where the stops read are all of a query, the reader has given all its events for the requests read, and rests where the query rests.
+pub fn readers_rest_as_parts_do()
+    ensures { RestsAsThePart }
+{}
+
+/// What a client makes of all events of a query that was asked enough is what the local run comes to, whatever the size of the chunks: the same answers and the same end.
+pub fn reads_are_local()
+    ensures { ReadsAreLocal }
+{}
+
+/// The same of a query that may be asked over a program that keeps to the sandbox, for a pengine's settings: what a client makes of all its events is what the query comes to by itself.
+pub fn asked_reads_are_local()
+    ensures { AskedReadsAreLocal }
+{}
+
+/// Whatever is sent to a pengine and strikes it later, the events that it has emitted stay.
+pub fn events_only_grow()
+    ensures { EventsOnlyGrow }
+{}
+
+/// The variables of each term of all events of a pengine are numbered from 0 by first occurrence, whatever is sent and strikes.
+pub fn terms_are_numbered()
+    ensures { TermsAreNumbered }
 {}

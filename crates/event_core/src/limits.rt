@@ -1,3 +1,6 @@
+/// The greatest number of answers that an event may be asked to hold; the least is 1.
+pub const MAX_CHUNK: u64 = 1_000;
+
 /// The steps that a query may make where its pengine names no limit.
 pub const DEFAULT_LIMIT: u64 = 1_000;
 

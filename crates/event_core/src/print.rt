@@ -90,7 +90,7 @@ pub fn line(alloc: Global, event: &Event) -> Result<Vec<u8>, Memory>
     ensures { IfOk result (λ v. v.items ≡ line_of argument event.now) }
 {
     let text = match event {
-        Event::Success { answers, more } => success(alloc, answers.as_slice(), *more)?,
+        Event::Success { answers, more, .. } => success(alloc, answers.as_slice(), *more)?,
         Event::Error(ball) => with_term(alloc, b"error(", ball)?,
         Event::Output(term) => with_term(alloc, b"output(", term)?,
         Event::Prompt(term) => with_term(alloc, b"prompt(", term)?,

@@ -1,7 +1,8 @@
-ghost use Rattle.std.specs.Prelude.{◌≡◌};
+ghost use Rattle.std.specs.Prelude.{◌≡◌, IfOk};
 
 use crate::event::Kind;
-use term_core::Term;
+use std::alloc::Global;
+use term_core::{List, Memory, Name, Term};
 
 /// A query: the goal to be run, and the term of which each answer gives an instance.
 /// A variable of the goal and one of the template with the same number are one variable.
@@ -9,7 +10,10 @@ use term_core::Term;
 pub struct Ask {
     pub goal: Term,
     pub template: Term,
-    /// How many answers an event holds, from 1 to 1,000; 0 stands for the pengine's own number. It holds fewer where their
+    /// The variables whose names an answer carries, where the pengine has names: those of the texts of goal and template with a
+    /// name that doesn't begin with `_`, in byte order of their names.
+    pub names: List<(Name, u64)>,
+    /// How many answers an event holds, from 1 to [`MAX_CHUNK`](crate::MAX_CHUNK); 0 stands for the pengine's own number. It holds fewer where their
     /// texts have [`CHUNK_BYTES`](crate::CHUNK_BYTES) together.
     pub chunk: u32,
     /// The bytes of the texts from which goal and template were read.
@@ -21,12 +25,41 @@ pub struct Ask {
 pub enum Request {
     /// Begins a query.
     Ask(Ask),
-    /// Asks for the further answers of the query. A number, from 1 to 1,000, is its chunk from then on.
+    /// Asks for the further answers of the query. A number, from 1 to [`MAX_CHUNK`](crate::MAX_CHUNK), is its chunk from then on.
     Next(Option<u32>),
     /// Ends the query.
     Stop,
     /// The reply to a prompt.
     Respond(Term),
+}
+
+impl Ask {
+    /// The same query again.
+    pub fn copied(&self, alloc: Global) -> Result<Ask, Memory>
+        ensures { IfOk result (λ a. a ≡ self.now) }
+    {
+        let goal = self.goal.copied(alloc)?;
+        let template = self.template.copied(alloc)?;
+        let names = named_again(alloc, self.names.as_slice())?;
+        Ok(Ask {
+            goal,
+            template,
+            names,
+            chunk: self.chunk,
+            bytes: self.bytes,
+        })
+    }
+}
+
+// The same names and variables again.
+fn named_again(alloc: Global, names: &[(Name, u64)]) -> Result<List<(Name, u64)>, Memory>
+    ensures { IfOk result (λ ns. ns ≡ names.now) }
+{
+    let mut again = List::new(alloc);
+    for (name, number) in names {
+        again.push((name.copied(alloc)?, *number))?;
+    }
+    Ok(again)
 }
 
 impl Request {
@@ -51,6 +84,18 @@ impl Request {
         match self {
             Request::Next(Some(new)) => *new,
             Request::Next(None) | Request::Ask(_) | Request::Stop | Request::Respond(_) => chunk,
+        }
+    }
+
+    /// The same request again.
+    pub fn copied(&self, alloc: Global) -> Result<Request, Memory>
+        ensures { IfOk result (λ r. r ≡ self.now) }
+    {
+        match self {
+            Request::Ask(ask) => Ok(Request::Ask(ask.copied(alloc)?)),
+            Request::Next(chunk) => Ok(Request::Next(*chunk)),
+            Request::Stop => Ok(Request::Stop),
+            Request::Respond(reply) => Ok(Request::Respond(reply.copied(alloc)?)),
         }
     }
 

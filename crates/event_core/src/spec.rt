@@ -1,4 +1,5 @@
 use crate::request::Ask;
+use crate::settings::Settings;
 use program::Program;
 use std::sync::Arc;
 
@@ -9,13 +10,8 @@ pub struct Spec {
     pub program: Arc<Program>,
     /// The first query, where there is one.
     pub ask: Option<Ask>,
-    /// How many answers an event holds where an ask names no number; from 1 to 1,000. It holds fewer where their texts have
-    /// [`CHUNK_BYTES`](crate::CHUNK_BYTES) together.
-    pub chunk: u32,
-    /// How many steps each query may make; from 1 to `MAX_LIMIT`.
-    pub limit: u64,
-    /// Whether the pengine is destroyed at the end of a query.
-    pub destroy: bool,
+    /// What the pengine is made with.
+    pub settings: Settings,
     /// The bytes of the source text from which the program was read.
     pub bytes: u64,
 }

@@ -1,15 +1,17 @@
 // The stops of a query, read from its trace.
-ghost use Rattle.std.specs.Prelude.{◌≡◌, ◌<◌, ◌≤◌, ◌&&◌, ℕ, min, nat_lt, All, None, List as list, true, false, [], ◌∷◌, ◌++◌, length, drop, IfOk, OnOk, if◌then◌else◌};
+ghost use Rattle.std.specs.Prelude.{◌≡◌, ◌<◌, ◌≤◌, ◌&&◌, ℕ, min, nat_lt, All, None, List as list, true, false, [], ◌∷◌, ◌++◌, IfOk, OnOk, if◌then◌else◌};
 ghost use Rattle.solve_model.specs.Run.{query};
 ghost use Rattle.solve_model.specs.Trace.{traced as traced_run, world_of};
 ghost use Rattle.event_core.specs.declared.stop.Stop.TheVariants as stop;
 ghost use Rattle.event_core.specs.Texts.{quoted};
 ghost use Rattle.event_core.specs.Fits.{fits};
 ghost use Rattle.event_core.specs.Stops.{is_followed, mark_stop, at_end, end_stop, stops_of, resource_error, stop_fits, cut_at, trace_stops, is_spent};
+ghost use Rattle.event_core.specs.Names.{answer_term};
 ghost use Rattle.event_core.specs.Parts.{replies};
 ghost use Rattle.event_core.specs.Reaching.{IsBegun};
-ghost use Rattle.event_core.specs.Standing.{stops_for, left_after};
+ghost use Rattle.event_core.specs.Standing.{stops_for};
 
+use crate::names::answer_term;
 use crate::request::{Ask, Request};
 use crate::settings::Settings;
 use crate::stop::Stop;
@@ -157,13 +159,6 @@ fn read_trace(alloc: Global, trace: Trace, is_cut: bool) -> Result<VecDeque<(u64
     Ok(stops)
 }
 
-// The run of a query: how many stops were found, and those that are still to be read, each with its step.
-#[derive(Debug, Drop)]
-pub(crate) struct Run {
-    pub(crate) found: usize,
-    pub(crate) left: VecDeque<(u64, Stop)>,
-}
-
 // Puts the reply that a request brings, if it brings one, behind the others.
 fn add_reply(alloc: Global, found: &mut Vec<Term>, request: &Request) -> Result<(), Memory>
     ensures { OnOk result (found.new.items ≡ found.old.items ++ replies (request.now ∷ [])) }
@@ -189,38 +184,23 @@ fn replies_of(alloc: Global, requests: &[Request]) -> Result<Vec<Term>, Memory>
 fn traced(
     alloc: Global,
     program: &Program,
+    settings: Settings,
     ask: &Ask,
     requests: &[Request],
     limit: u64,
 ) -> Result<Trace, Memory>
-    ensures { IfOk result (λ t. t ≡ traced_run ask.now.template (query (world_of program.now (replies requests.now) limit) ask.now.goal ask.now.template)) }
+    ensures { IfOk result (λ t. t ≡ traced_run (answer_term settings.names ask.now) (query (world_of program.now (replies requests.now) limit) ask.now.goal (answer_term settings.names ask.now))) }
 {
     let replies = replies_of(alloc, requests)?;
+    let answer = answer_term(alloc, settings.names, ask)?;
     trace(
         alloc,
         program,
         &ask.goal,
-        &ask.template,
+        &answer,
         replies.as_slice(),
         limit,
     )
-}
-
-// The stops of a query from its first step on, with the replies of these requests.
-pub(crate) fn first_run(
-    alloc: Global,
-    program: &Program,
-    settings: Settings,
-    ask: &Ask,
-    requests: &[Request],
-) -> Result<Run, Memory>
-    ensures left { IfOk result (λ r. r.left.items ≡ stops_for program.now settings ask.now requests.now) }
-    ensures found { IfOk result (λ r. r.found ≡ length (stops_for program.now settings ask.now requests.now)) }
-{
-    let trace = traced(alloc, program, ask, requests, settings.limit)?;
-    let left = read_trace(alloc, trace, false)?;
-    let found = left.len();
-    Ok(Run { found, left })
 }
 
 // Whether a query that ended so after these steps goes on where it has its limit.
@@ -252,7 +232,7 @@ pub(crate) fn stops_within(
     ensures in_time { IfOk result (λ w. All (λ s. s.0 ≤ min steps settings.limit) w.stops.items) }
 {
     let limit = steps.min(settings.limit);
-    let trace = traced(alloc, program, ask, requests, limit)?;
+    let trace = traced(alloc, program, settings, ask, requests, limit)?;
     let goes_on = is_cut_off(&trace.end, steps, settings.limit);
     if goes_on && trace.steps < steps {
         // No run is cut off before it has made its steps.
@@ -260,42 +240,4 @@ pub(crate) fn stops_within(
     }
     let stops = read_trace(alloc, trace, goes_on)?;
     Ok(Within { stops, goes_on })
-}
-
-// The stops behind the first `read` ones.
-fn behind(
-    alloc: Global,
-    mut stops: VecDeque<(u64, Stop)>,
-    read: usize,
-) -> Result<VecDeque<(u64, Stop)>, Memory>
-    ensures { IfOk result (λ v. v.items ≡ drop read stops.items) }
-{
-    if stops.len() < read {
-        return Ok(VecDeque::new(alloc));
-    }
-    Ok(stops.split_off(read)?)
-}
-
-impl Run {
-    // The run where the query goes on after the last of these requests. With a reply more it begins anew, and the stops that were read are passed over.
-    pub(crate) fn further(
-        self,
-        alloc: Global,
-        program: &Program,
-        settings: Settings,
-        ask: &Ask,
-        requests: &[Request],
-        is_reply: bool,
-    ) -> Result<Run, Memory>
-        ensures left { IfOk result (λ r. r.left.items ≡ left_after is_reply self.found self.left.items (stops_for program.now settings ask.now requests.now)) }
-        ensures found { IfOk result (λ r. r.found ≡ (if is_reply then length (stops_for program.now settings ask.now requests.now) else self.found)) }
-    {
-        if !is_reply {
-            return Ok(self);
-        }
-        let read = self.found.saturating_sub(self.left.len());
-        let Run { found, left } = first_run(alloc, program, settings, ask, requests)?;
-        let left = behind(alloc, left, read)?;
-        Ok(Run { found, left })
-    }
 }

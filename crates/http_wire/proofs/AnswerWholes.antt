@@ -18,9 +18,9 @@ use Rattle.http_wire.specs.declared.responses.GotResponse.{GotResponse}
 use Rattle.http_wire.specs.Limits.{front}
 use Rattle.http_wire.specs.Heads.{FillStops, HeadStops}
 use Rattle.http_wire.specs.Framing.{is_length, values}
-use Rattle.http_wire.specs.HeadLaws.{begins}
-use Rattle.http_wire.specs.AnswerLaws.{answer_ends_in_line}
+use Rattle.http_wire.specs.AnswerLaws.{response_none_open}
 use Rattle.http_wire.specs.Answered.{answer_length_by, answer_length, IsWholeAnswer, FirstAnswer, HasNoAnswer, LacksAnswerHead, AnswerStops, GetsAnswer, answer_of, IsResponseHeadAt, RefusesResponseHead}
+use Rattle.http_wire.proofs.Fronts.{begins}
 use Rattle.http_wire.proofs.Wholes.{nothing_left}
 
 -- a head that was found in the front is whole, whatever follows
@@ -77,11 +77,7 @@ refused_answer bytes others why refused h after n whole framed =
     ]
 
 empty_lacks : LacksAnswerHead []
-empty_lacks h after n whole framed =
-    let ends = answer_ends_in_line h in
-    let whole_size : 0 ≡ length (print_response h) + length after = ap length whole.reads.1 ∙ length-append (print_response h) after in
-    let line_size : length (print_response h) ≡ length ends.0 + 1 = ap length ends.1 ∙ length-append ends.0 (10 ∷ []) in
-    absurd (omega (arith, whole_size, line_size))
+empty_lacks h after n whole framed = response_none_open [] refl h after whole.reads
 
 -- why the reading of a response's head stops
 pub answer_head_bad : (left : Option (List ℕ)) (bytes : List ℕ) (e : Stop) → e ≢ stop.ReadFault → e ≢ stop.Memory

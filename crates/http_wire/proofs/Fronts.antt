@@ -1,14 +1,15 @@
 -- The bytes in which a head must lie, and why its reading stops.
-use Rattle.std.proofs.Common.{◌≡◌, ◌≢◌, ◌∙◌, ◌++◌, ◌+◌, ◌-◌, ◌≤◌, ◌<◌, inl, inr, false, ℕ, List, [], length, take, Option, refl, ap, sym, subst, arith, append-nil}
+use Rattle.std.proofs.Common.{◌≡◌, ◌≢◌, ◌∙◌, ◌++◌, ◌+◌, ◌-◌, ◌≤◌, ◌<◌, inl, inr, false, ℕ, List, [], length, take, drop, Option, refl, ap, sym, subst, arith, append-nil}
 use Rattle.std.specs.Io.KnownBytes.{IsAtEnd}
 use Rattle.std.proofs.lemmas.Bool.{cases_lt}
-use Rattle.std.proofs.lemmas.List.{take_all, length-take-le, take-append-le}
-use Rattle.std.proofs.Math.Seq.{take-append-add}
+use Rattle.std.proofs.lemmas.List.{take_all, length-take-le, take-append-le, take-append-drop}
+use Rattle.std.proofs.Math.Seq.{take-append-add, take-append_seam}
 use Rattle.http_wire.specs.declared.message.Why.{Why}
 use Rattle.http_wire.specs.declared.message.Stop.{Stop}
 use Rattle.http_wire.specs.declared.message.Stop.TheVariants.{End, Refused, ReadFault, Memory}
 use Rattle.http_wire.specs.Limits.{front}
-use Rattle.http_wire.specs.Heads.{ends_line, HasNoLine, FillStops, Lacks, EndStops, HeadStops}
+use Rattle.http_wire.specs.Endings.{ends_head, IsOpen}
+use Rattle.http_wire.specs.Heads.{FillStops, Lacks, EndStops, HeadStops}
 
 pub front_all : (bytes : List ℕ) → length bytes ≤ 16384 → front bytes ≡ bytes
 front_all bytes le = take_all 16384 bytes le
@@ -34,9 +35,18 @@ front_grows bytes others =
       | inr more ↦ ([], take-append-le 16384 bytes others more ∙ sym (append-nil (front bytes)))
     ]
 
-pub none_after : (none : List ℕ → Type 0) → ((a b : List ℕ) → none a → ends_line b ≡ false → none (a ++ b))
-    → (f old new : List ℕ) → f ≡ old → none f → HasNoLine old new → none new
-none_after none on f old new same n line = subst none (sym line.1) (on old line.0 (subst none same n) line.2)
+-- a list that begins with p, as another that is longer does
+pub begins : (a b p rest : List ℕ) → a ++ b ≡ p ++ rest → length p ≤ length a → a ≡ p ++ drop (length p) a
+begins a b p rest e le =
+    let front : take (length p) a ≡ p =
+    sym (take-append-le (length p) a b le) ∙ ap (take (length p)) e ∙ take-append_seam p rest in
+    sym (take-append-drop (length p) a) ∙ ap (λ (l : List ℕ). l ++ drop (length p) a) front
+
+-- what was looked at before, or has no end of a head
+pub none_after : (none : List ℕ → Type 0) → ((b : List ℕ) → ends_head b ≡ false → none b)
+    → (f old new : List ℕ) → f ≡ old → none f → IsOpen old new → none new
+none_after none unended f old new same n (inl kept) = subst none (same ∙ sym kept) n
+none_after none unended f old new same n (inr ends) = unended new ends
 
 module _ (none may : List ℕ → Type 0) (refused : List ℕ → Why → Type 0) where
   pub head_stops : (left : Option (List ℕ)) (bytes b : List ℕ) (e : Stop) → b ≡ bytes → length bytes < 16384 → IsAtEnd left

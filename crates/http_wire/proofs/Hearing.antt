@@ -10,7 +10,9 @@ use Rattle.http_wire.specs.declared.message.Why.TheVariants.{BadHead, HeadTooLon
 use Rattle.http_wire.specs.declared.message.Got.{Got}
 use Rattle.http_wire.specs.declared.message.Got.TheVariants as got
 use Rattle.http_wire.specs.Framing.{body_length, closes}
-use Rattle.http_wire.specs.HeadLaws.{begins, ends_in_line}
+use Rattle.http_wire.specs.Endings.{ends_head}
+use Rattle.http_wire.specs.HeadLaws.{request_none_open}
+use Rattle.http_wire.proofs.Fronts.{begins}
 use Rattle.http_wire.specs.Limits.{front}
 use Rattle.http_wire.specs.Heard.{IsWhole, First, IsFramedTo, Reason, AtEnd, RefusedFor, EndsBy, Begun, Gets, reason_of, CallsHearTheStream, StreamsAreHeardOnce}
 
@@ -107,9 +109,7 @@ framed_otherwise bytes r rest why first (h, after, whole, framed) =
     cc
 
 first_goes_on : (bytes : List ℕ) (r : HttpRequest) (rest : List ℕ) (why : Reason) → First bytes r rest → EndsBy bytes why → ⊥
-first_goes_on bytes r rest AtEnd first ends =
-    let line = ends_in_line first.head in
-    omega (arith, ap length (sym first.whole.reads.1 ∙ ends), length-append (print_request first.head) first.after, ap length line.1, length-append line.0 (10 ∷ []))
+first_goes_on bytes r rest AtEnd first ends = request_none_open bytes (ap ends_head ends) first.head first.after first.whole.reads
 first_goes_on bytes r rest (RefusedFor BadHead) first (inl never) =
     never (drop 16384 bytes) first.head first.after
     (subst (λ (b : List ℕ). ReadsRequest b first.head first.after) (sym (whole_front bytes first.head first.after first.whole).0) first.whole.reads)

@@ -1,6 +1,5 @@
 -- How far the reading of a head has come.
-use Rattle.std.specs.Prelude.{◌≡◌, ◌⊎◌, ℕ, ◌<◌, Bool, false, List, [], ◌++◌, length, nat_eq, Option, ⊤}
-use Rattle.std.specs.List.{list_any}
+use Rattle.std.specs.Prelude.{◌≡◌, ◌⊎◌, ℕ, ◌<◌, List, [], length, Option, ⊤}
 use Rattle.std.specs.Io.KnownBytes.{IsAtEnd}
 use Rattle.httparse.specs.declared.spans.HeaderSpan.{HeaderSpan}
 use Rattle.http_wire.specs.declared.message.Why.{Why}
@@ -17,14 +16,6 @@ FillStops End left = IsAtEnd left
 FillStops (Refused why) left = ⊥
 FillStops ReadFault left = ⊤
 FillStops Memory left = ⊤
-
--- a line ends in the bytes
-abbrev pub ends_line : List ℕ → Bool
-ends_line bytes = list_any (λ b. nat_eq b 10) bytes
-
--- no line ends in what was read
-abbrev pub HasNoLine : (held held' : List ℕ) → Type 0
-HasNoLine held held' = (more : List ℕ) × (held' ≡ held ++ more) × (ends_line more ≡ false)
 
 module _ {S : Type 0} (is_head : List ℕ → List HeaderSpan → S → Type 0) (none may : List ℕ → Type 0) (refused : List ℕ → Why → Type 0) where
   -- what a look at the bytes of a head finds: a head, none yet, or that none may come

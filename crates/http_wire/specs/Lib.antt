@@ -1,5 +1,6 @@
 pub mod AnswerLaws
 pub mod Answered
+pub mod Endings
 pub mod Framing
 pub mod HeadLaws
 pub mod Heads

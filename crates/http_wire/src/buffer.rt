@@ -3,8 +3,10 @@ ghost use Rattle.std.specs.Prelude.{◌≡◌, ◌+◌, ◌<◌, ◌≤◌, [], 
 ghost use Rattle.outside.specs.Faults.{Rose};
 ghost use Rattle.http_wire.specs.declared.message.Stop.TheVariants as stop;
 ghost use Rattle.http_wire.specs.Reads.{Reads};
-ghost use Rattle.http_wire.specs.Heads.{FillStops, HasNoLine};
+ghost use Rattle.http_wire.specs.Heads.{FillStops};
+ghost use Rattle.http_wire.specs.Endings.{IsOpen};
 
+use crate::ending::Place;
 use crate::message::Stop;
 use outside::{ReadGot, Source};
 use std::alloc::Global;
@@ -93,20 +95,23 @@ impl Buffer {
         }
     }
 
-    /// Reads until what came has the end of a line, or `most` bytes are held.
-    pub fn fill_line<S: Source>(&mut self, src: &mut S, most: usize) -> Result<(), Stop>
+    /// Reads until what is held has the end of a head, or is twice what it was, or has `most` bytes.
+    pub fn fill_head<S: Source>(&mut self, src: &mut S, most: usize) -> Result<(), Stop>
         requires { length self.old < most }
         ensures reads { Reads S.left S.faults S.reads src.old src.new self.old self.new }
         ensures more { OnOk result (length self.old < length self.new) }
         ensures few { OnErr result (length self.new < most) }
-        ensures line { OnErr result (HasNoLine self.old self.new) }
+        ensures unended { OnErr result (IsOpen self.old self.new) }
         ensures stops { IfErr result (λ e. FillStops e (S.left src.new)) }
         ensures cause { result ≡ Err stop.ReadFault → Rose (S.faults src.old) (S.faults src.new) }
     {
+        let held = self.bytes().len();
+        let mut place = Place::Before.behind(self.bytes());
         'pieces: loop {
             let count = self.fill(src)?;
             let bytes = self.bytes();
-            if bytes.len() >= most || bytes[bytes.len() - count..].contains(&b'\n') {
+            place = place.behind(&bytes[bytes.len() - count..]);
+            if place.is_over() || bytes.len() >= most || bytes.len() / 2 >= held {
                 return Ok(());
             }
         }

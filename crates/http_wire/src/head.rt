@@ -1,12 +1,13 @@
 // The head of a message, read from pieces of any size.
-ghost use Rattle.std.specs.Prelude.{◌≡◌, ◌<◌, ◌≤◌, ℕ, List, ◌++◌, false, length, IfOk, IfErr, Err};
+ghost use Rattle.std.specs.Prelude.{◌≡◌, ◌<◌, ◌≤◌, ℕ, List, false, length, IfOk, IfErr, Err};
 ghost use Rattle.outside.specs.Faults.{Rose};
 ghost use Rattle.httparse.specs.declared.spans.HeaderSpan.{HeaderSpan};
 ghost use Rattle.http_wire.specs.declared.message.Stop.TheVariants as stop;
 ghost use Rattle.http_wire.specs.declared.message.Why.{Why};
 ghost use Rattle.http_wire.specs.Limits.{front};
 ghost use Rattle.http_wire.specs.Reads.{Reads};
-ghost use Rattle.http_wire.specs.Heads.{ends_line, Looks, EndStops, HeadStops};
+ghost use Rattle.http_wire.specs.Heads.{Looks, EndStops, HeadStops};
+ghost use Rattle.http_wire.specs.Endings.{ends_head};
 
 use crate::buffer::Buffer;
 use crate::message::{Stop, Why};
@@ -54,8 +55,8 @@ pub trait Heads {
     /// A head is a head.
     ghost no_head: { (b : List ℕ) (f : List HeaderSpan) (s : Self.Spans) → is_head b f s → none b → ⊥ };
 
-    /// A head ends in a line end.
-    ghost none_on: { (a b : List ℕ) → none a → ends_line b ≡ false → none (a ++ b) };
+    /// A head ends in an empty line.
+    ghost none_open: { (b : List ℕ) → ends_head b ≡ false → none b };
 }
 
 /// The bytes in which a head must lie.
@@ -91,7 +92,8 @@ fn at_end<H: Heads>(bytes: &[u8], fields: &mut [HeaderSpan]) -> Stop
 
 /// The head at the front of the bytes held and those that come, which are read as far as it needs.
 ///
-/// The bytes are looked at anew where a line has ended, or the head is as long as it may be.
+/// The bytes are looked at anew where an empty line has ended, where twice as many are held, and where
+/// the head is as long as it may be.
 pub fn read_head<H: Heads, S: Source>(
     buffer: &mut Buffer,
     src: &mut S,
@@ -107,7 +109,7 @@ pub fn read_head<H: Heads, S: Source>(
         match H::look(front(buffer.bytes()), fields) {
             Looked::Head(spans) => return Ok(spans),
             Looked::Refused(why) => return Err(Stop::Refused(why)),
-            Looked::Open => match buffer.fill_line(src, HEAD_LIMIT) {
+            Looked::Open => match buffer.fill_head(src, HEAD_LIMIT) {
                 Ok(()) => {}
                 Err(stop) => match stop {
                     Stop::End => return Err(at_end::<H>(buffer.bytes(), fields)),

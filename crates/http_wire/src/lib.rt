@@ -6,6 +6,7 @@
 #![tactic(auto)]
 
 mod buffer;
+mod ending;
 mod framing;
 mod head;
 mod laws;

@@ -24,7 +24,7 @@ pub struct RequestHeads;
 impl Heads for RequestHeads {
     ghost use Rattle.httparse.specs.Grammar.{HasNoRequest, MayBecomeRequest};
     ghost use Rattle.http_wire.specs.Requests.{IsRequestHeadAt, RefusesRequestHead};
-    ghost use Rattle.http_wire.specs.HeadLaws.{request_no_head, request_none_on};
+    ghost use Rattle.http_wire.specs.HeadLaws.{request_no_head, request_none_open};
 
     type Spans = RequestSpans;
 
@@ -38,7 +38,7 @@ impl Heads for RequestHeads {
 
     ghost no_head = { request_no_head };
 
-    ghost none_on = { request_none_on };
+    ghost none_open = { request_none_open };
 
     fn look(bytes: &[u8], fields: &mut [HeaderSpan]) -> Looked<RequestSpans> {
         match parse_request(bytes, fields) {

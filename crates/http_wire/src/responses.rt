@@ -65,7 +65,7 @@ pub struct ResponseHeads;
 impl Heads for ResponseHeads {
     ghost use Rattle.httparse.specs.Grammar.{HasNoResponse};
     ghost use Rattle.http_wire.specs.Answered.{IsResponseHeadAt, RefusesResponseHead};
-    ghost use Rattle.http_wire.specs.AnswerLaws.{response_no_head, response_none_on};
+    ghost use Rattle.http_wire.specs.AnswerLaws.{response_no_head, response_none_open};
 
     type Spans = ResponseSpans;
 
@@ -79,7 +79,7 @@ impl Heads for ResponseHeads {
 
     ghost no_head = { response_no_head };
 
-    ghost none_on = { response_none_on };
+    ghost none_open = { response_none_open };
 
     fn look(bytes: &[u8], fields: &mut [HeaderSpan]) -> Looked<ResponseSpans> {
         match parse_response(bytes, fields) {

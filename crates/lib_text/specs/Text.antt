@@ -1,5 +1,7 @@
--- The text of the library: the predicates of SWI-Prolog's library(lists) and library(apply), on which the pengines of TPLP 2014 run, `between/3` and `succ/2`.
+-- The texts of the libraries of applications. Each has the predicates of SWI-Prolog's library(lists) and library(apply), on which the pengines of TPLP 2014 run, `between/3` and `succ/2`.
 use Rattle.std.specs.Prelude.{ℕ, List, [], ◌∷◌, ◌++◌, codes}
+use Rattle.term_core.specs.declared.app.App.{App}
+use Rattle.term_core.specs.declared.app.App.TheVariants.{Sandbox, School, Numbers}
 
 -- each line with its end
 abbrev pub ended : List (List ℕ) → List ℕ
@@ -81,3 +83,18 @@ library_lines =
 
 abbrev pub library_text : List ℕ
 library_text = ended library_lines
+
+-- ---- what an application has of its own
+
+abbrev pub school_text : List ℕ
+school_text =
+    ended (codes "add_all(L, S) :- foldl('$add', L, 0, S)." ∷ codes "'$add'(X, A, B) :- B is A + X." ∷ codes "twice(X, Y) :- Y is 2 * X." ∷ [])
+
+-- School alone has a text behind the library's
+unfoldable pub text_behind : App → List ℕ
+text_behind Sandbox = []
+text_behind School = school_text
+text_behind Numbers = []
+
+abbrev pub text_of : App → List ℕ
+text_of app = library_text ++ text_behind app

@@ -1,5 +1,7 @@
 ghost use Rattle.std.specs.Prelude.{◌≡◌};
-ghost use Rattle.lib_text.specs.Text.{library_text};
+ghost use Rattle.lib_text.specs.Text.{library_text, text_behind};
+
+use term_core::App;
 
 /// The library's source text.
 const SOURCE: &str = "append([], L, L).
@@ -80,4 +82,21 @@ pub fn source() -> &'static str
     ensures { result.now ≡ library_text }
 {
     SOURCE
+}
+
+/// What School has behind the library's text.
+const SCHOOL: &str = "add_all(L, S) :- foldl('$add', L, 0, S).
+'$add'(X, A, B) :- B is A + X.
+twice(X, Y) :- Y is 2 * X.
+";
+
+/// The source text that an application has behind the library's: that of `School`, and `''` for the others.
+#[tactic(auto, unfolding(crate::specs::Text::text_behind))]
+pub fn source_of(app: App) -> &'static str
+    ensures { result.now ≡ text_behind app }
+{
+    match app {
+        App::School => SCHOOL,
+        App::Sandbox | App::Numbers => "",
+    }
 }

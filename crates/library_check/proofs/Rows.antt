@@ -5,7 +5,7 @@ use Rattle.std.specs.Option.{option_map}
 use Rattle.std.proofs.lemmas.List.Folds.{list_any-append}
 use Rattle.term_core.specs.declared.pi.Pi.{Pi}
 use Rattle.builtin_table.specs.declared.row.Row.{Row}
-use Rattle.builtin_table.specs.Table.{Rows, row_of, standard, indicators}
+use Rattle.builtin_table.specs.Table.{Rows, row_of, indicators}
 use Rattle.program.specs.Bodies.{is_connective}
 use Rattle.program.specs.Clauses.{same_indicator}
 use Rattle.sandbox_walk.specs.Shown.{declared_kind, kinds_in, indicator}
@@ -72,19 +72,19 @@ module _ (i : Pi) (o : Option (List ℤ)) (of_helper : o ≡ metas_of (row_of i 
   known_called a b e f k =
       k ∙ second (is_some (row_of i helpers)) (list_any (same_indicator i) called) (sym (e ∙ is_helper i o of_helper) ∙ f) ∙ among_both i helpers called
 
-  pub helper_runs : (rows : Rows) (a b : Bool) → rows ≡ standard → a ≡ is_library_row (row_of i rows) → a ≡ false → b ≡ is_some o → b ≡ runs_goals i
-  helper_runs rows a b t e f h =
+  pub helper_runs : (rows : Rows) (a b : Bool) → a ≡ is_library_row (row_of i rows) → a ≡ false → b ≡ is_some o → b ≡ runs_goals rows i
+  helper_runs rows a b e f h =
       h ∙ is_helper i o of_helper
-      ∙ second (is_library_row (row_of i standard)) (is_some (row_of i helpers)) (ap (λ (rs : Rows). is_library_row (row_of i rs)) (sym t) ∙ sym e ∙ f)
+      ∙ second (is_library_row (row_of i rows)) (is_some (row_of i helpers)) (sym e ∙ f)
 
 -- ---- goal positions
 
-module _ (i : Pi) (vs : List ℤ) (no_parts : (is_connective i.name && i.arity == 2) ≡ false) where
-  pub run_helper : (ms : List ℤ) → metas_of (row_of i helpers) ≡ Some ms → vs ≡ ms → map declared_kind vs ≡ run_kinds i
+module _ (rows : Rows) (i : Pi) (vs : List ℤ) (no_parts : (is_connective i.name && i.arity == 2) ≡ false) where
+  pub run_helper : (ms : List ℤ) → metas_of (row_of i helpers) ≡ Some ms → vs ≡ ms → map declared_kind vs ≡ run_kinds rows i
   unfolding run_kinds
   run_helper ms h v = by (row_of i helpers) refl h
     where
-      by : (o : Option Row) → row_of i helpers ≡ o → metas_of o ≡ Some ms → map declared_kind vs ≡ run_kinds i
+      by : (o : Option Row) → row_of i helpers ≡ o → metas_of o ≡ Some ms → map declared_kind vs ≡ run_kinds rows i
       by None e g = cc
       by (Some r) e g = let x : vs ≡ r.metas = cc in rw (no_parts, e) (ap (map declared_kind) x)
 
@@ -92,20 +92,20 @@ module _ (i : Pi) (vs : List ℤ) (no_parts : (is_connective i.name && i.arity =
   none_from None e = refl
   none_from (Some r) e = cc
 
-  as_table : metas_of (row_of i helpers) ≡ None → kinds_in standard i ≡ run_kinds i
+  as_table : metas_of (row_of i helpers) ≡ None → kinds_in rows i ≡ run_kinds rows i
   unfolding run_kinds
   as_table h = rw (no_parts, none_from (row_of i helpers) h) refl
 
-  in_row : (r : Row) → row_of i standard ≡ Some r → vs ≡ r.metas → map declared_kind vs ≡ kinds_in standard i
+  in_row : (r : Row) → row_of i rows ≡ Some r → vs ≡ r.metas → map declared_kind vs ≡ kinds_in rows i
   unfolding kinds_in
   in_row r e v = rw (no_parts, e) (ap (map declared_kind) v)
 
-  in_no_row : row_of i standard ≡ None → vs ≡ [] → map declared_kind vs ≡ kinds_in standard i
+  in_no_row : row_of i rows ≡ None → vs ≡ [] → map declared_kind vs ≡ kinds_in rows i
   unfolding kinds_in
   in_no_row e v = rw (no_parts, e) (ap (map declared_kind) v)
 
-  pub run_row : (r : Row) → metas_of (row_of i helpers) ≡ None → row_of i standard ≡ Some r → vs ≡ r.metas → map declared_kind vs ≡ run_kinds i
+  pub run_row : (r : Row) → metas_of (row_of i helpers) ≡ None → row_of i rows ≡ Some r → vs ≡ r.metas → map declared_kind vs ≡ run_kinds rows i
   run_row r h e v = in_row r e v ∙ as_table h
 
-  pub run_none : metas_of (row_of i helpers) ≡ None → row_of i standard ≡ None → vs ≡ [] → map declared_kind vs ≡ run_kinds i
+  pub run_none : metas_of (row_of i helpers) ≡ None → row_of i rows ≡ None → vs ≡ [] → map declared_kind vs ≡ run_kinds rows i
   run_none h e v = in_no_row e v ∙ as_table h

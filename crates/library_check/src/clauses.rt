@@ -1,10 +1,10 @@
 // Whether each clause keeps to the sandbox.
 ghost use Rattle.std.specs.Prelude.{◌≡◌, map, IfOk};
 ghost use Rattle.std.specs.List.{list_all};
-ghost use Rattle.builtin_table.specs.Table.{standard};
 ghost use Rattle.program.specs.Kept.{clause_of};
 ghost use Rattle.program.specs.Source.{begins_with_dollar as begins_with_dollar_name};
 ghost use Rattle.sandbox_walk.specs.Keeping.{clause_keeps as clause_keeps_of};
+ghost use Rattle.library_check.specs.Tables.{AreOfApp};
 
 use crate::handing::{Given, hands_on};
 use crate::indicators::indicator;
@@ -20,8 +20,8 @@ pub(crate) fn clauses_keep(
     table: &Table,
     clauses: &[&Clause],
 ) -> Result<bool, Memory>
-    requires { table.now ≡ standard }
-    ensures { IfOk result (λ b. b ≡ list_all clause_keeps_of (map (λ c. clause_of c.now) clauses.now)) }
+    requires { AreOfApp table.now }
+    ensures { IfOk result (λ b. b ≡ list_all (clause_keeps_of table.now) (map (λ c. clause_of c.now) clauses.now)) }
 {
     for clause in clauses {
         if !clause_keeps(alloc, table, clause)? {
@@ -34,8 +34,8 @@ pub(crate) fn clauses_keep(
 // Whether a clause is of no reserved predicate, and is of none whose name begins with `$` where it is the client's, or hands
 // on the goals that it was given where it is one of the library's that runs goals.
 pub(crate) fn clause_keeps(alloc: Global, table: &Table, clause: &Clause) -> Result<bool, Memory>
-    requires { table.now ≡ standard }
-    ensures { IfOk result (λ b. b ≡ clause_keeps_of (clause_of clause.now)) }
+    requires { AreOfApp table.now }
+    ensures { IfOk result (λ b. b ≡ clause_keeps_of table.now (clause_of clause.now)) }
 {
     let Some(pi) = indicator(alloc, &clause.head)? else {
         return Ok(true);

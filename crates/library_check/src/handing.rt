@@ -1,6 +1,5 @@
 // Whether the body of a clause hands on the goals that the clause was given.
 ghost use Rattle.std.specs.Prelude.{◌≡◌, map, IfOk};
-ghost use Rattle.builtin_table.specs.Table.{standard};
 ghost use Rattle.sandbox_walk.specs.Keeping.{has_goal as has_goal_of, is_goal as is_goal_of, hands_argument as hands_argument_of, hands_arguments as hands_arguments_of, hands_on as hands_on_of};
 ghost use Rattle.library_check.specs.Bodies.{is_given as is_given_by, left_hands_on};
 ghost use Rattle.sandbox_walk.specs.Shown.{declared_kind};
@@ -26,8 +25,7 @@ pub(crate) fn hands_on(
     given: &Given,
     body: &Term,
 ) -> Result<bool, Memory>
-    requires { table.now ≡ standard }
-    ensures { IfOk result (λ b. b ≡ hands_on_of (is_given_by given.now) body.now) }
+    ensures { IfOk result (λ b. b ≡ hands_on_of table.now (is_given_by given.now) body.now) }
 {
     let mut bodies = vec![in alloc; body.copied(alloc)?]?;
     for _ in 0..u64::MAX {
@@ -49,8 +47,7 @@ fn bodies_left(
     given: &Given,
     body: &Term,
 ) -> Result<Option<Vec<Term>>, Memory>
-    requires { table.now ≡ standard }
-    ensures { IfOk result (λ o. left_hands_on given.now o ≡ hands_on_of (is_given_by given.now) body.now) }
+    ensures { IfOk result (λ o. left_hands_on table.now given.now o ≡ hands_on_of table.now (is_given_by given.now) body.now) }
 {
     let Some(pi) = indicator(alloc, body)? else {
         return Ok(None);

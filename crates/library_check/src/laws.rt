@@ -1,5 +1,5 @@
 // Laws that hold of every library and every client's text.
-ghost use Rattle.library_check.specs.Loaded.{AcceptedTextsKeepTheSandbox, ChecksAreSound};
+ghost use Rattle.library_check.specs.Loaded.{AcceptedTextsKeepTheSandbox, LoadedTextsKeepTheSandbox};
 
 /// Each clause of a client's text that is accepted is of a predicate that the sandbox leaves to the client: it isn't reserved,
 /// and its name doesn't begin with `$`.
@@ -7,8 +7,7 @@ pub fn accepted_texts_keep_the_sandbox()
     ensures { AcceptedTextsKeepTheSandbox }
 {}
 
-/// A program that is loaded over a library that keeps to the sandbox keeps to it too, and no run of a goal that passes over it
-/// ends outside.
-pub fn checks_are_sound()
-    ensures { ChecksAreSound }
+/// The clauses that are loaded over a library that keeps to the sandbox keep to it too, where the client's text is accepted.
+pub fn loaded_texts_keep_the_sandbox()
+    ensures { LoadedTextsKeepTheSandbox }
 {}

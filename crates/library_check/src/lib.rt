@@ -11,8 +11,8 @@ mod metas;
 mod predicates;
 mod tables;
 
-pub use keeping::{keeps_sandbox, library_keeps_sandbox};
-pub use laws::{accepted_texts_keep_the_sandbox, checks_are_sound};
+pub use keeping::keeps_sandbox;
+pub use laws::{accepted_texts_keep_the_sandbox, loaded_texts_keep_the_sandbox};
 
 #[cfg(test)]
 mod tests;

@@ -1,6 +1,5 @@
 // The goal positions of a literal.
 ghost use Rattle.std.specs.Prelude.{◌≡◌, ◌&&◌, ◌==◌, false, map, IfOk};
-ghost use Rattle.builtin_table.specs.Table.{standard};
 ghost use Rattle.program.specs.Bodies.{is_connective};
 ghost use Rattle.sandbox_walk.specs.Shown.{declared_kind};
 ghost use Rattle.sandbox_walk.specs.Keeping.{run_kinds};
@@ -13,9 +12,8 @@ use term_core::{Memory, Pi};
 // Where the arguments of a literal are run, as the table declares it, and of the helpers as they do. The parts of `,`, `;` and
 // `->` are no goal positions.
 pub(crate) fn run_metas(alloc: Global, table: &Table, pi: &Pi) -> Result<Vec<i8>, Memory>
-    requires { table.now ≡ standard }
     ensures { IfOk result (λ v.
-        (is_connective pi.now.name && pi.now.arity == 2) ≡ false → map declared_kind v.items ≡ run_kinds pi.now) }
+        (is_connective pi.now.name && pi.now.arity == 2) ≡ false → map declared_kind v.items ≡ run_kinds table.now pi.now) }
 {
     match helper(pi) {
         Some(metas) => copied(alloc, &metas),

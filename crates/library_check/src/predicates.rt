@@ -1,7 +1,7 @@
 // What is asked of the predicates of a program.
 ghost use Rattle.std.specs.Prelude.{◌≡◌, IfOk};
 ghost use Rattle.std.specs.List.{list_all};
-ghost use Rattle.builtin_table.specs.Table.{indicators};
+ghost use Rattle.builtin_table.specs.Table.{indicators, rows_of_app};
 ghost use Rattle.sandbox_walk.specs.Keeping.{is_closed as is_closed_in, is_there as is_there_in};
 ghost use Rattle.library_check.specs.Tables.{indicators_in, rows_in};
 
@@ -16,7 +16,7 @@ pub(crate) fn are_closed(
     program: &Program,
     rows: &[(&str, u32, [i8; 8])],
 ) -> Result<bool, Memory>
-    ensures { IfOk result (λ b. b ≡ list_all (is_closed_in program.now) (indicators (rows_in rows.now))) }
+    ensures { IfOk result (λ b. b ≡ list_all (is_closed_in (rows_of_app program.now.app) program.now.clauses) (indicators (rows_in rows.now))) }
 {
     for (name, arity, _) in rows {
         let pi = Pi {
@@ -32,7 +32,7 @@ pub(crate) fn are_closed(
 
 // Whether some goal position that the predicate's clauses show holds no body.
 fn is_closed(alloc: Global, program: &Program, pi: &Pi) -> Result<bool, Memory>
-    ensures { IfOk result (λ b. b ≡ is_closed_in program.now pi.now) }
+    ensures { IfOk result (λ b. b ≡ is_closed_in (rows_of_app program.now.app) program.now.clauses pi.now) }
 {
     let open = goals_are_bodies(alloc, program, pi)?;
     Ok(!open)
@@ -44,7 +44,7 @@ pub(crate) fn are_there(
     program: &Program,
     names: &[(&str, u32)],
 ) -> Result<bool, Memory>
-    ensures { IfOk result (λ b. b ≡ list_all (is_there_in program.now) (indicators_in names.now)) }
+    ensures { IfOk result (λ b. b ≡ list_all (is_there_in program.now.clauses) (indicators_in names.now)) }
 {
     for (name, arity) in names {
         let pi = Pi {
@@ -59,7 +59,7 @@ pub(crate) fn are_there(
 }
 
 fn is_there(program: &Program, pi: &Pi) -> bool
-    ensures { result ≡ is_there_in program.now pi.now }
+    ensures { result ≡ is_there_in program.now.clauses pi.now }
 {
     !program.clauses(pi).is_empty()
 }

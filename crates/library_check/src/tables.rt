@@ -2,7 +2,7 @@
 ghost use Rattle.std.specs.Prelude.{◌≡◌};
 ghost use Rattle.std.specs.List.{list_any};
 ghost use Rattle.std.specs.Option.{option_map};
-ghost use Rattle.builtin_table.specs.Table.{standard, row_of};
+ghost use Rattle.builtin_table.specs.Table.{row_of};
 ghost use Rattle.program.specs.Clauses.{same_indicator};
 ghost use Rattle.sandbox_walk.specs.Keeping.{helpers, is_known as is_known_predicate, is_library_row, is_reserved as is_reserved_predicate, runs_goals as runs_goals_of};
 ghost use Rattle.library_check.specs.Tables.{indicators_in, rows_in};
@@ -86,8 +86,7 @@ pub(crate) fn is_known(pi: &Pi) -> bool
 
 // Whether the predicate is one of the library that runs goals.
 pub(crate) fn runs_goals(table: &Table, pi: &Pi) -> bool
-    requires { table.now ≡ standard }
-    ensures { result ≡ runs_goals_of pi.now }
+    ensures { result ≡ runs_goals_of table.now pi.now }
 {
     is_of_library(table, pi) || helper(pi).is_some()
 }
@@ -103,8 +102,7 @@ fn is_of_library(table: &Table, pi: &Pi) -> bool
 
 // Whether no source text may define the predicate.
 pub(crate) fn is_reserved(table: &Table, pi: &Pi) -> bool
-    requires { table.now ≡ standard }
-    ensures { result ≡ is_reserved_predicate pi.now }
+    ensures { result ≡ is_reserved_predicate table.now pi.now }
 {
     table.reserved().contains(pi)
 }

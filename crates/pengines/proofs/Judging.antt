@@ -5,8 +5,10 @@ use Rattle.std.specs.Str.Lossy.{utf8_valid_len}
 use Rattle.std.proofs.lemmas.Str.{IsUtf8-from_is_utf8, is_utf8-from_IsUtf8}
 use Rattle.term_core.specs.declared.pi.Pi.{Pi}
 use Rattle.term_core.specs.Tree.{Tree}
-use Rattle.builtin_table.specs.Table.{standard}
-use Rattle.program.specs.Clauses.{Clause}
+use Rattle.term_core.specs.declared.app.App.{App}
+use Rattle.term_core.specs.declared.app.App.TheVariants.{Sandbox}
+use Rattle.builtin_table.specs.Table.{rows_of_app}
+use Rattle.program.specs.Loaded.{Loaded}
 use Rattle.request_text.specs.declared.fault.SpecFault.{SpecFault}
 use Rattle.request_text.specs.declared.fault.SpecFault.TheVariants as spec
 use Rattle.request_text.specs.declared.fault.ScriptFault.TheVariants as fault
@@ -14,8 +16,8 @@ use Rattle.request_text.specs.Kept.{spec_fault}
 use Rattle.request_text.specs.Spelled.{program_in, of_spec}
 use Rattle.sandbox_walk.specs.declared.unsafe_goal.Unsafe.{Unsafe}
 use Rattle.sandbox_walk.specs.declared.unsafe_goal.Unsafe.TheVariants as unsafe
-use Rattle.sandbox_walk.specs.Verdict.{Verdict, Refuses}
-use Rattle.sandbox_walk.specs.Computed.{verdict}
+use Rattle.sandbox_walk.specs.Verdict.{VerdictOver, RefusesOver}
+use Rattle.sandbox_walk.specs.Computed.{verdict_over}
 use Rattle.sandbox_walk.proofs.Rounds.{is_one}
 use Rattle.pengines.specs.declared.refusal.Refusal.{Refusal}
 use Rattle.pengines.specs.Input.{ReadsAll, max_input}
@@ -40,14 +42,14 @@ not_text bs h = by (is_utf8 bs) refl
     by true e = absurd (h (IsUtf8-from_is_utf8 bs e))
     by false e = rw e refl
 
-module _ (bs text : List ℕ) (same : text ≡ bs) (u : IsUtf8 bs) where
-  is_source : source_in bs ≡ of_spec (program_in text)
-  is_source = rw (is_utf8-from_IsUtf8 bs u) (ap (λ (b : List ℕ). of_spec (program_in b)) (sym same))
+module _ (app : App) (bs text : List ℕ) (sandbox : app ≡ Sandbox) (same : text ≡ bs) (u : IsUtf8 bs) where
+  is_source : source_in bs ≡ of_spec (program_in app text)
+  is_source = rw (is_utf8-from_IsUtf8 bs u) (ap (λ (b : List ℕ). of_spec (program_in Sandbox b)) (sym same) ∙ ap (λ (a : App). of_spec (program_in a text)) (sym sandbox))
 
-  pub source_read : (cs : List Clause) → program_in text ≡ Ok cs → source_in bs ≡ Ok cs
-  source_read cs h = is_source ∙ ap of_spec h
+  pub source_read : (l : Loaded) → program_in app text ≡ Ok l → source_in bs ≡ Ok l
+  source_read l h = is_source ∙ ap of_spec h
 
-  pub source_refused : (e : SpecFault) → ((e ≡ spec.Memory → ⊥) → program_in text ≡ Err e) → (spec_fault e ≡ fault.Memory → ⊥) → source_in bs ≡ Err (spec_fault e)
+  pub source_refused : (e : SpecFault) → ((e ≡ spec.Memory → ⊥) → program_in app text ≡ Err e) → (spec_fault e ≡ fault.Memory → ⊥) → source_in bs ≡ Err (spec_fault e)
   source_refused (spec.Source f) h n = is_source ∙ ap of_spec (h (λ q. cc))
   source_refused (spec.Clause f) h n = is_source ∙ ap of_spec (h (λ q. cc))
   source_refused (spec.Ask f) h n = is_source ∙ ap of_spec (h (λ q. cc))
@@ -57,19 +59,19 @@ module _ (bs text : List ℕ) (same : text ≡ bs) (u : IsUtf8 bs) where
 -- ---- the verdict
 
 -- what the sandbox answers is the verdict
-pub passed : (p : List Clause) (g : Tree) → Verdict standard p g None → None ≡ verdict standard p g
-passed p g v = (is_one standard p g).only None v
+pub passed : (l : Loaded) (g : Tree) → VerdictOver l g None → None ≡ verdict_over l g
+passed l g v = (is_one (rows_of_app l.app) l.clauses g).only None v
 
 -- what is said of a goal is said of it under another name too
-pub said : (p : List Clause) (g : Tree) (e u : Unsafe) → e ≡ u → Refuses standard p g e → Refuses standard p g u
-said p g e u same = subst (Refuses standard p g) same
+pub said : (l : Loaded) (g : Tree) (e u : Unsafe) → e ≡ u → RefusesOver l g e → RefusesOver l g u
+said l g e u same = subst (RefusesOver l g) same
 
-module _ (p : List Clause) (g : Tree) where
-  pub sandboxed : (i : Pi) → Refuses standard p g (unsafe.Sandboxed i) → Some (unsafe.Sandboxed i) ≡ verdict standard p g
-  sandboxed i = (is_one standard p g).only (Some (unsafe.Sandboxed i))
+module _ (l : Loaded) (g : Tree) where
+  pub sandboxed : (i : Pi) → RefusesOver l g (unsafe.Sandboxed i) → Some (unsafe.Sandboxed i) ≡ verdict_over l g
+  sandboxed i = (is_one (rows_of_app l.app) l.clauses g).only (Some (unsafe.Sandboxed i))
 
-  pub uninstantiated : Refuses standard p g unsafe.Uninstantiated → Some unsafe.Uninstantiated ≡ verdict standard p g
-  uninstantiated = (is_one standard p g).only (Some unsafe.Uninstantiated)
+  pub uninstantiated : RefusesOver l g unsafe.Uninstantiated → Some unsafe.Uninstantiated ≡ verdict_over l g
+  uninstantiated = (is_one (rows_of_app l.app) l.clauses g).only (Some unsafe.Uninstantiated)
 
-  pub not_callable : (t : Tree) → Refuses standard p g (unsafe.NotCallable t) → Some (unsafe.NotCallable t) ≡ verdict standard p g
-  not_callable t = (is_one standard p g).only (Some (unsafe.NotCallable t))
+  pub not_callable : (t : Tree) → RefusesOver l g (unsafe.NotCallable t) → Some (unsafe.NotCallable t) ≡ verdict_over l g
+  not_callable t = (is_one (rows_of_app l.app) l.clauses g).only (Some (unsafe.NotCallable t))

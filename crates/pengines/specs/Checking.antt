@@ -4,18 +4,18 @@ use Rattle.std.specs.Str.{is_utf8}
 use Rattle.std.specs.Str.Lossy.{utf8_valid_len}
 use Rattle.std.specs.Io.KnownBytes.{Appends}
 use Rattle.term_core.specs.Tree.{Tree}
-use Rattle.builtin_table.specs.Table.{standard}
+use Rattle.term_core.specs.declared.app.App.TheVariants.{Sandbox}
 use Rattle.prolog_read.specs.declared.fault.ReadFault.{ReadFault}
 use Rattle.prolog_read.specs.Clauses.{iso}
 use Rattle.prolog_read.specs.Outcome.{ReadAs, term_read}
 use Rattle.prolog_write.specs.declared.mode.Mode.TheVariants.{Quoted}
 use Rattle.prolog_write.specs.Text.{text as whole_text}
-use Rattle.program.specs.Clauses.{Clause}
+use Rattle.program.specs.Loaded.{Loaded}
 use Rattle.request_text.specs.declared.fault.ScriptFault.{ScriptFault}
 use Rattle.request_text.specs.declared.fault.ScriptFault.TheVariants.{Utf8}
 use Rattle.request_text.specs.Spelled.{place_of, program_in, of_spec}
 use Rattle.sandbox_walk.specs.declared.unsafe_goal.Unsafe.{Unsafe}
-use Rattle.sandbox_walk.specs.Computed.{verdict}
+use Rattle.sandbox_walk.specs.Computed.{verdict_over}
 use Rattle.sandbox_walk.specs.Formal.{formal_of}
 use Rattle.pengines.specs.declared.refusal.Refusal.{Refusal}
 use Rattle.pengines.specs.declared.refusal.Refusal.TheVariants.{Script, Goal}
@@ -25,21 +25,21 @@ use Rattle.pengines.specs.Refusal.{text_of}
 use Rattle.pengines.specs.Session.{Told, Unchanged, IsTooLong}
 
 -- the program of an input that is a source text whole
-abbrev pub source_in : List ℕ → Result (List Clause) ScriptFault
-source_in input = if is_utf8 input then of_spec (program_in input) else Err (Utf8 (utf8_valid_len input))
+abbrev pub source_in : List ℕ → Result Loaded ScriptFault
+source_in input = if is_utf8 input then of_spec (program_in Sandbox input) else Err (Utf8 (utf8_valid_len input))
 
 -- the goal of a text that reads so
 abbrev pub goal_read : Result ReadAs ReadFault → Result Tree Refusal
 goal_read (Ok x) = Ok x.0
 goal_read (Err e) = Err (Goal (place_of e))
 
-abbrev pub verdict_over : List Clause → Result Tree Refusal → Result (Option Unsafe) Refusal
-verdict_over clauses (Ok goal) = Ok (verdict standard clauses goal)
-verdict_over clauses (Err e) = Err e
+abbrev pub verdict_of : Loaded → Result Tree Refusal → Result (Option Unsafe) Refusal
+verdict_of program (Ok goal) = Ok (verdict_over program goal)
+verdict_of program (Err e) = Err e
 
 -- The source is refused before the goal.
-abbrev pub judged_over : Result (List Clause) ScriptFault → (goal : List ℕ) → Result (Option Unsafe) Refusal
-judged_over (Ok clauses) goal = verdict_over clauses (goal_read (term_read iso goal))
+abbrev pub judged_over : Result Loaded ScriptFault → (goal : List ℕ) → Result (Option Unsafe) Refusal
+judged_over (Ok program) goal = verdict_of program (goal_read (term_read iso goal))
 judged_over (Err e) goal = Err (Script e)
 
 -- the sandbox's verdict on the goal that a text spells, over the program that an input spells

@@ -5,6 +5,7 @@ use Rattle.pengines.specs.Input.{ReadsAll, max_input}
 use Rattle.pengines.specs.Output.{AppendsPart, Says, SaysMemory, line, text_of_lines}
 use Rattle.pengines.specs.Refusal.{refusal_text}
 use Rattle.request_text.specs.declared.fault.ScriptFault.{ScriptFault}
+use Rattle.term_core.specs.declared.app.App.TheVariants.{Sandbox}
 use Rattle.request_text.specs.Spelled.{Script, script}
 use Rattle.request_text.specs.Lines.{script_lines}
 
@@ -22,7 +23,7 @@ pub record ReadsScript {S : Type 0} (left : Told S) (old new : S) (lines : List 
   pub whole : ReadsAll (left old) (left new) bytes
   pub size : length bytes ≤ max_input
   pub read : Script
-  pub spelled : script bytes ≡ Ok read
+  pub spelled : script Sandbox bytes ≡ Ok read
   pub printed : lines ≡ script_lines read
 
 -- The source was read to its end, and its bytes are refused so.
@@ -30,7 +31,7 @@ pub record IsRefused {S : Type 0} (left : Told S) (old new : S) (fault : ScriptF
   pub bytes : List ℕ
   pub whole : ReadsAll (left old) (left new) bytes
   pub size : length bytes ≤ max_input
-  pub refused : script bytes ≡ Err fault
+  pub refused : script Sandbox bytes ≡ Err fault
 
 -- More bytes were read than an input may have.
 pub record IsTooLong {S : Type 0} (left : Told S) (old new : S) : Type 0 where

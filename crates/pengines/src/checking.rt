@@ -1,11 +1,11 @@
 // The command `check`: reads a source text, and prints the sandbox's verdict on a goal.
 ghost use Rattle.std.specs.Prelude.{◌≡◌, ◌≢◌, ◌≤◌, Ok, Err, IfOk, IfErr, IsErrOf};
 ghost use Rattle.outside.specs.Faults.{Rose};
-ghost use Rattle.builtin_table.specs.Table.{standard};
+ghost use Rattle.term_core.specs.declared.app.App.TheVariants.{Sandbox};
 ghost use Rattle.prolog_read.specs.Clauses.{iso};
 ghost use Rattle.prolog_read.specs.Outcome.{term_read};
 ghost use Rattle.request_text.specs.declared.fault.ScriptFault.TheVariants as script_fault;
-ghost use Rattle.sandbox_walk.specs.Computed.{verdict};
+ghost use Rattle.sandbox_walk.specs.Computed.{verdict_over};
 ghost use Rattle.pengines.specs.declared.input.InputStop.TheVariants as input_stop;
 ghost use Rattle.pengines.specs.declared.refusal.Refusal.TheVariants as refusal_kind;
 ghost use Rattle.pengines.specs.declared.refusal.Refusal.{Refusal as Reason};
@@ -26,7 +26,7 @@ use request_text::{ScriptFault, place_of, program_in};
 use sandbox_walk::{Unsafe, check};
 use std::alloc::Global;
 use std::sync::Arc;
-use term_core::{Memory, Term};
+use term_core::{App, Memory, Term};
 
 /// Why no verdict was printed.
 #[derive(Debug, Drop)]
@@ -116,7 +116,7 @@ pub fn run_check<S: Source, K: Sink>(
     ensures input_memory { IsErrOf result (CheckStop.Input input_stop.Memory) → Unchanged K.taken out.old out.new }
 {
     let input = read_input(alloc, src)?;
-    let library = Library::read(alloc)?;
+    let library = Library::read(alloc, App::Sandbox)?;
     let verdict = judged(alloc, &library, &input, goal)?;
     let line = verdict_line(alloc, &verdict)?;
     write_all(out, &line)?;
@@ -154,6 +154,7 @@ fn judged(
     input: &[u8],
     goal: &str,
 ) -> Result<Option<Unsafe>, Refusal>
+    requires { library.now.app ≡ Sandbox }
     ensures verdict { IfOk result (λ v. judged input.now goal.now ≡ Ok v) }
     ensures refused { IfErr result (λ e. e ≢ refusal_kind.Memory → judged input.now goal.now ≡ Err e) }
 {
@@ -173,7 +174,7 @@ fn shared(alloc: Global, program: Program) -> Result<Arc<Program>, Memory>
 
 /// The sandbox's verdict on a goal.
 fn verdict_on(alloc: Global, program: &Arc<Program>, goal: &Term) -> Result<Option<Unsafe>, Memory>
-    ensures { IfOk result (λ v. v ≡ verdict standard program.now.value goal.now) }
+    ensures { IfOk result (λ v. v ≡ verdict_over program.now.value goal.now) }
 {
     match check(alloc, program, goal) {
         Ok(_) => Ok(None),
@@ -201,6 +202,7 @@ fn goal_in(alloc: Global, text: &str) -> Result<Term, Refusal>
 
 /// The program of an input that is a source text whole.
 fn source_in(alloc: Global, library: &Library, input: &[u8]) -> Result<Program, ScriptFault>
+    requires { library.now.app ≡ Sandbox }
     ensures program { IfOk result (λ p. source_in input.now ≡ Ok p) }
     ensures refused { IfErr result (λ e. e ≢ script_fault.Memory → source_in input.now ≡ Err e) }
 {

@@ -6,12 +6,14 @@
 
 mod checking;
 mod command;
+mod dialogue;
 mod input;
+mod leading;
 mod output;
 mod printing;
 mod refusal;
 mod run;
-mod session;
+mod scripts;
 
 use output::say;
 use outside::{StdSink, StdSource};

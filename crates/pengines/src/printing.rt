@@ -1,66 +1,64 @@
 // The lines of a script, one at a time.
 ghost use Rattle.std.specs.Prelude.{◌≡◌, [], ◌∷◌, IfOk, MatchOption};
-ghost use Rattle.event_core.specs.Full.{at};
-ghost use Rattle.event_core.specs.Standing.{spec_of};
+ghost use Rattle.pengines.specs.Printed.{line_told};
 ghost use Rattle.request_text.specs.Kept.{script_read};
-ghost use Rattle.request_text.specs.Lines.{sent_step, script_lines};
+ghost use Rattle.request_text.specs.Lines.{script_lines};
+ghost use Rattle.sandbox_walk.specs.Keeping.{KeepsSandbox};
 
-use event_core::{Event, Pengine, line};
+use crate::leading::{Told, next_told};
+use event_core::{Event, Spec, line};
 use request_text::{Script, Sent};
+use session::Session;
 use std::alloc::Global;
 use std::collections::VecDeque;
 use std::marker::Model;
-use std::sync::Arc;
-use term_core::{List, Memory};
-
-/// The events that what is sent brings, up to the next rest.
-fn send(alloc: Global, pengine: &mut Pengine, sent: Sent) -> Result<List<Event>, Memory>
-    ensures events { IfOk result (λ es. at pengine.new.place es ≡ sent_step (spec_of pengine.old.clauses pengine.old.settings) sent pengine.old.place) }
-    ensures clauses { pengine.new.clauses ≡ pengine.old.clauses }
-    ensures settings { pengine.new.settings ≡ pengine.old.settings }
-{
-    match sent {
-        Sent::Request(request) => pengine.request(alloc, request),
-        Sent::Abort => pengine.abort(alloc),
-        Sent::Destroy => pengine.destroy(alloc),
-    }
-}
+use term_core::Memory;
 
 /// A script under way, which contracts see as the lines that it still prints.
 #[derive(Drop)]
 pub struct Printing {
-    pengine: Pengine,
+    // None once it was destroyed.
+    session: Option<Session>,
+    // Whether the line of the event `create` was printed.
+    begun: bool,
     lines: VecDeque<Sent>,
-    waiting: VecDeque<Event>,
 }
 
 impl Model for Printing {
     ghost use Rattle.std.specs.Prelude.{ℕ, List};
-    ghost use Rattle.event_core.specs.Standing.{spec_of};
-    ghost use Rattle.request_text.specs.Lines.{lines_left};
+    ghost use Rattle.pengines.specs.Printed.{left, IsLedOn};
 
     ghost Value = { List (List ℕ) };
 
-    ghost view = { λ p. lines_left (spec_of p.pengine.clauses p.pengine.settings) p.waiting.items p.lines.items p.pengine.place };
+    ghost view = { λ p. left p.session p.begun p.lines.items };
+
+    ghost invariant = { λ p. IsLedOn p.session };
 }
 
 impl Printing {
     /// All the lines of a script.
     pub fn new(alloc: Global, script: Script) -> Result<Printing, Memory>
+        requires { KeepsSandbox script.spec.program.value }
         ensures { IfOk result (λ p. p ≡ script_lines (script_read script)) }
     {
-        let Script {
+        let Script { spec, lines } = script;
+        let Spec {
             program,
             settings,
-            lines,
-        } = script;
-        let program = Arc::new(alloc, program)?;
-        let mut waiting = VecDeque::new(alloc);
-        waiting.push_back(Event::Create)?;
+            bytes,
+            ..
+        } = spec;
+        let spec = Spec {
+            program,
+            ask: None,
+            settings,
+            bytes,
+        };
+        let session = Session::create(alloc, spec)?;
         Ok(Printing {
-            pengine: Pengine::new(program, settings),
+            session: Some(session),
+            begun: false,
             lines: VecDeque::from(lines.into_vec()),
-            waiting,
         })
     }
 
@@ -71,20 +69,27 @@ impl Printing {
             (self.old ≡ [])
             (λ line. self.old ≡ line.items ∷ self.new)) }
     {
-        loop {
-            if let Some(event) = self.waiting.pop_front() {
-                let text = line(alloc, &event)?;
-                return Ok(Some(text));
-            }
-            let Some(sent) = self.lines.pop_front() else {
-                return Ok(None);
-            };
-            if self.pengine.ended() {
-                let text = Vec::from_slice(alloc, b"ended")?;
-                return Ok(Some(text));
-            }
-            let events = send(alloc, &mut self.pengine, sent)?;
-            self.waiting = VecDeque::from(events.into_vec());
+        if !self.begun {
+            self.begun = true;
+            let text = line(alloc, &Event::Create)?;
+            return Ok(Some(text));
         }
+        let mut session = self.session.take();
+        let told = next_told(&mut session, &mut self.lines)?;
+        self.session = session;
+        match told {
+            Some(told) => Ok(Some(text_of(alloc, &told)?)),
+            None => Ok(None),
+        }
+    }
+}
+
+/// The line that tells it, without its line end.
+fn text_of(alloc: Global, told: &Told) -> Result<Vec<u8>, Memory>
+    ensures { IfOk result (λ t. line_told told.now ≡ t.items) }
+{
+    match told {
+        Told::Event(event) => line(alloc, event),
+        Told::Late => Ok(Vec::from_slice(alloc, b"ended")?),
     }
 }

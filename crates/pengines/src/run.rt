@@ -12,7 +12,7 @@ use crate::command::{goal_of, is_session};
 use crate::input::InputStop;
 use crate::output::say;
 use crate::refusal::{Refusal, refusal_line};
-use crate::session::{SessionStop, run_session};
+use crate::scripts::{SessionStop, run_session};
 use outside::{Sink, Source};
 use std::alloc::Global;
 use term_core::Memory;

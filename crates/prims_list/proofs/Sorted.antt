@@ -1,5 +1,5 @@
 -- The primitives on lists: the results' pairs each begin with one of the arguments.
-use Rattle.std.proofs.Common.{◌≡◌, pos, length, List, [], ◌∷◌, Result, Ok, Err}
+use Rattle.std.proofs.Common.{pos, length, List, [], ◌∷◌, Result, Ok, Err}
 use Rattle.std.specs.List.{Contains}
 use Rattle.std.proofs.lemmas.List.Elements.{All-nil}
 use Rattle.term_core.specs.Tree.{Tree, integer}

@@ -1,5 +1,5 @@
 -- What a primitive gives, before cells are made for it.
-use Rattle.std.specs.Prelude.{ℕ, ◌<◌, ◌≤◌, pos, List, [], ◌∷◌, map, length, slice_index, if◌then◌else◌, Ok, Err, ⊤}
+use Rattle.std.specs.Prelude.{ℕ, ◌<◌, ◌≤◌, pos, List, [], ◌∷◌, map, length, slice_index, if◌then◌else◌, Ok, Err, codes, ⊤}
 use Rattle.std.specs.List.{All}
 use Rattle.term_core.specs.Tree.{Tree, variable, integer, atom, compound, trees_of, tree_list, arity}
 use Rattle.term_core.specs.Variables.{variables}
@@ -77,6 +77,8 @@ plan_outcome s args plan.Passes = offer [] 0
 plan_outcome s args (plan.Equal i w) = offer ((tree_of s (slice_index args i), what_tree s w) ∷ []) (what_fresh s w)
 plan_outcome s args (plan.Symbol c) =
     offer ((tree_of s (slice_index args 1), symbol_tree (tree_of s c)) ∷ (tree_of s (slice_index args 2), integer (pos (arity_of (tree_of s c)))) ∷ []) 0
+plan_outcome s args (plan.Divided x y) =
+    offer ((tree_of s (slice_index args 2), integer x) ∷ (tree_of s (slice_index args 3), integer y) ∷ []) 0
 plan_outcome s args (plan.Ball e) = Ball e
 
 abbrev pub IsPlan : Cells → (args : List ℕ) → Plan → Type 0
@@ -84,6 +86,7 @@ IsPlan s args plan.Fails = ⊤
 IsPlan s args plan.Passes = ⊤
 IsPlan s args (plan.Equal i w) = (i < length args) × IsWhat s w
 IsPlan s args (plan.Symbol c) = (2 < length args) × IsCell s c
+IsPlan s args (plan.Divided x y) = 3 < length args
 IsPlan s args (plan.Ball e) = ⊤
 
 -- the same of a comparison of values
@@ -91,3 +94,17 @@ abbrev pub compared_plan : List ℕ → Relation → Value → Value → Plan
 compared_plan f r (Ok x) (Ok y) = if holds r (int_cmp x y) then plan.Passes else plan.Fails
 compared_plan f r (Ok x) (Err e) = plan.Ball (error_term e (indicator_term (record { name = f; arity = 2 })))
 compared_plan f r (Err d) w = plan.Ball (error_term d (indicator_term (record { name = f; arity = 2 })))
+
+-- plus/3, where the argument of this place is a value
+abbrev pub plus_plan : (place : ℕ) → Value → Plan
+plus_plan i (Ok z) = plan.Equal i (what.Int z)
+plus_plan i (Err e) = plan.Ball (error_term e (indicator_term (record { name = codes "plus"; arity = 3 })))
+
+abbrev pub divmod_fault : Tree → Plan
+divmod_fault e = plan.Ball (error_term e (indicator_term (record { name = codes "divmod"; arity = 4 })))
+
+-- divmod/4 of this quotient and what is left
+abbrev pub divmod_plan : (quotient left : Value) → Plan
+divmod_plan (Ok x) (Ok y) = plan.Divided x y
+divmod_plan (Ok x) (Err e) = divmod_fault e
+divmod_plan (Err d) w = divmod_fault d

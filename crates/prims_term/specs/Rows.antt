@@ -20,11 +20,16 @@ abbrev pub is_two_name : List ℕ → Bool
 is_two_name f = is_some (order_named f) || (is_some (comparison_named f) || is_pair_name f)
 
 abbrev pub is_triple_name : List ℕ → Bool
-is_triple_name f = bytes_eq f (codes "functor") || (bytes_eq f (codes "arg") || bytes_eq f (codes "compare"))
+is_triple_name f =
+    bytes_eq f (codes "functor") || (bytes_eq f (codes "arg") || (bytes_eq f (codes "compare") || bytes_eq f (codes "plus")))
+
+abbrev pub is_quadruple_name : List ℕ → Bool
+is_quadruple_name f = bytes_eq f (codes "divmod")
 
 abbrev pub is_row : List ℕ → (arity : ℕ) → Bool
 is_row f zero = false
 is_row f (suc zero) = is_kind_name f
 is_row f (suc (suc zero)) = is_two_name f
 is_row f (suc (suc (suc zero))) = is_triple_name f
-is_row f (suc (suc (suc (suc n)))) = false
+is_row f (suc (suc (suc (suc zero)))) = is_quadruple_name f
+is_row f (suc (suc (suc (suc (suc n))))) = false

@@ -1,14 +1,15 @@
 // A primitive by its name and arguments.
 ghost use Rattle.std.specs.Prelude.{◌≡◌, ◌∷◌, [], true, map, length, IfOk};
 ghost use Rattle.std.specs.List.{All};
-ghost use Rattle.builtin_table.specs.Primitives.{primitive, of_two as of_two_tree, of_two_terms as of_two_terms_tree, of_three as of_three_tree};
+ghost use Rattle.builtin_table.specs.Primitives.{primitive, of_two as of_two_tree, of_two_terms as of_two_terms_tree, of_three as of_three_tree, of_four as of_four_tree};
 ghost use Rattle.store.specs.Cells.{IsCell, tree_of};
 ghost use Rattle.prims_term.specs.Plans.{plan_outcome, IsPlan};
-ghost use Rattle.prims_term.specs.Rows.{is_row, is_two_name, is_pair_name, is_triple_name};
+ghost use Rattle.prims_term.specs.Rows.{is_row, is_two_name, is_pair_name, is_triple_name, is_quadruple_name};
 
 use crate::arg::arg;
 use crate::compare::{assign, compare, compare_values, order_of};
 use crate::functor::functor;
+use crate::integers::{divmod, plus};
 use crate::kinds::of_one;
 use crate::plan::{Plan, What};
 use crate::results::tested;
@@ -36,6 +37,9 @@ pub(crate) fn planned(
         [term] => of_one(alloc, store, name, *term),
         [first, second] => of_two(alloc, store, name, *first, *second),
         [first, second, third] => of_three(alloc, store, name, *first, *second, *third),
+        [first, second, third, fourth] => {
+            of_four(alloc, store, name, *first, *second, *third, *fourth)
+        }
         _ => unreachable!(),
     }
 }
@@ -113,6 +117,32 @@ fn of_three(
         "functor" => functor(alloc, store, first, second, third),
         "arg" => arg(alloc, store, first, second, third),
         "compare" => compare(alloc, store, first, second, third),
+        "plus" => plus(alloc, store, first, second, third),
+        _ => unreachable!(),
+    }
+}
+
+#[tactic(auto, unfolding(builtin_table::specs::Primitives::of_four))]
+fn of_four(
+    alloc: Global,
+    store: &Store,
+    name: &str,
+    first: Cell,
+    second: Cell,
+    third: Cell,
+    fourth: Cell,
+) -> Result<Plan, Memory>
+    requires first { IsCell store.now first }
+    requires second { IsCell store.now second }
+    requires third { IsCell store.now third }
+    requires fourth { IsCell store.now fourth }
+    requires row { is_quadruple_name name.now ≡ true }
+    ensures outcome { IfOk result (λ p. plan_outcome store.now (first ∷ second ∷ third ∷ fourth ∷ []) p
+        ≡ of_four_tree name.now (tree_of store.now first) (tree_of store.now second) (tree_of store.now third) (tree_of store.now fourth)) }
+    ensures plan { IfOk result (IsPlan store.now (first ∷ second ∷ third ∷ fourth ∷ [])) }
+{
+    match name {
+        "divmod" => divmod(alloc, store, first, second, third, fourth),
         _ => unreachable!(),
     }
 }

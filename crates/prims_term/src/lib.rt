@@ -6,6 +6,7 @@ mod arg;
 mod by_name;
 mod compare;
 mod functor;
+mod integers;
 mod kinds;
 mod lists;
 mod make;

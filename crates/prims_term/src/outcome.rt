@@ -106,6 +106,7 @@ fn carry_out(alloc: Global, store: &mut Store, args: &[Cell], plan: Plan) -> Res
             Ok(Outcome::Offers(Offers::one(pairs)))
         }
         Plan::Symbol(c) => symbol(alloc, store, args, c),
+        Plan::Divided(quotient, left) => divided(alloc, store, args, quotient, left),
         Plan::Ball(ball) => Ok(Outcome::Ball(ball)),
     }
 }
@@ -124,6 +125,28 @@ fn symbol(alloc: Global, store: &mut Store, args: &[Cell], c: Cell) -> Result<Ou
     let name = symbol_name(alloc, store, c)?;
     let arity = store.int(i128::from(count))?;
     let pairs = List::from_vec(vec![in alloc; (1, name), (2, arity)]?);
+    Ok(Outcome::Offers(Offers::one(pairs)))
+}
+
+// These integers for the third and the fourth argument.
+fn divided(
+    alloc: Global,
+    store: &mut Store,
+    args: &[Cell],
+    quotient: i128,
+    left: i128,
+) -> Result<Outcome, Memory>
+    requires cells { All (IsCell store.old) args.now }
+    requires plan { IsPlan store.old args.now (Plan.Divided quotient left) }
+    ensures outcome { IfOk result (λ o. outcome_of store.new args.now (store.new.next - store.old.next) o
+        ≡ plan_outcome store.old args.now (Plan.Divided quotient left)) }
+    ensures next { OnOk result (store.new.next ≡ store.old.next) }
+    ensures cells { IfOk result (HasCells store.new args.now) }
+    ensures keeps { Keeps store.old store.new }
+{
+    let quotient = store.int(quotient)?;
+    let left = store.int(left)?;
+    let pairs = List::from_vec(vec![in alloc; (2, quotient), (3, left)]?);
     Ok(Outcome::Offers(Offers::one(pairs)))
 }
 

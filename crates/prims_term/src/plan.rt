@@ -31,6 +31,8 @@ pub(crate) enum Plan {
     Equal(u32, What),
     // One result, in which the second argument is the name of this cell's term, and the third its arity.
     Symbol(Cell),
+    // One result, in which the third argument is the first of these, and the fourth the second.
+    Divided(i128, i128),
     // An error.
     Ball(Term),
 }

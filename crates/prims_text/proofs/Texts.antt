@@ -1,5 +1,5 @@
 -- The primitives on texts: the results' pairs each begin with one of the arguments.
-use Rattle.std.proofs.Common.{◌≡◌, ℕ, suc, ◌-◌, pos, length, take, drop, ℤ, Bool, true, false, ◌||◌, List, [], ◌∷◌, map, Option, Some, None, Result, Ok, Err}
+use Rattle.std.proofs.Common.{ℕ, suc, ◌-◌, pos, length, take, drop, ◌||◌, List, [], ◌∷◌, Result, Ok, Err}
 use Rattle.std.specs.List.{All, Contains, range_with_len}
 use Rattle.std.proofs.lemmas.List.Elements.{All-nil}
 use Rattle.std.specs.Str.{chars}
@@ -10,7 +10,7 @@ use Rattle.builtin_table.specs.Texts.{PartTerms, atom_of, length_found, atom_len
 use Rattle.builtin_table.specs.Numbers.{number_ball, number_joined, number_made, number_text, number_spelled, atom_of_number, atom_number}
 use Rattle.builtin_table.specs.Outcomes.{Offers, is_variable}
 use Rattle.tree_offers.specs.Results.{BeginsWith, IsOver}
-use Rattle.tree_offers.proofs.Over.{Over, ball_over, fails_over, one_over, pair_before, unifies_over, chosen, option_over, each_over, all_over}
+use Rattle.tree_offers.proofs.Over.{Over, ball_over, fails_over, pair_before, unifies_over, chosen, option_over, each_over, all_over}
 
 module _ (ts : List Tree) where
   -- ---- texts

@@ -1,8 +1,1 @@
-pub mod Cells
-pub mod Grouping
-pub mod Joined
-pub mod Keys
-pub mod NewVariables
-pub mod NextPart
-pub mod Slices
-pub mod TreeValues
+pub mod HavePlaces

@@ -2,33 +2,16 @@
 //! the engine's primitives over cells also have.
 #![tactic(auto)]
 
-mod arg;
-mod atoms;
 mod by_name;
-mod characters;
-mod compare;
-mod concat;
-mod copies;
-mod functor;
-mod keyed;
-mod kinds;
-mod lists;
-mod numbers;
 mod offer;
 mod outcome;
-mod parts;
-mod results;
+mod placed;
 mod solutions;
-mod sorting;
-mod spelled;
-mod splits;
-mod texts;
-mod univ;
-mod values;
 
-pub use by_name::call;
-pub use copies::variable_terms;
-pub use lists::{list_of, may_be_list};
-pub use offer::{Offer, Offers};
-pub use outcome::Outcome;
-pub use solutions::{Arrangement, findall_offers, group_offers};
+pub use by_name::{call, placed_call};
+pub use offer::{Offer, Offers, find_first};
+pub use outcome::{Outcome, PlacedOutcome};
+pub use placed::PlacedOffers;
+pub use solutions::{findall_offers, group_offers, placed_findall_offers, placed_group_offers};
+pub use tree_lists::Arrangement;
+pub use tree_results::{list_of, may_be_list, variable_terms};

@@ -1,10 +1,10 @@
-// The results of a primitive.
-ghost use Rattle.std.specs.Prelude.{◌≡◌, [], ◌∷◌, map, reverse, IfOk, OnErr, MatchOption};
-ghost use Rattle.builtin_table.specs.Texts.{splits_from, parts_from};
-ghost use Rattle.prims_tree.specs.Views.{offer_of, part_terms_of};
+// The results of a primitive over terms.
+ghost use Rattle.std.specs.Prelude.{◌≡◌, [], ◌∷◌, map, None, IfOk, OnOk, OnErr, MatchOption};
+ghost use Rattle.tree_results.specs.Placed.{argument as argument_of, for_arguments};
+ghost use Rattle.tree_results.specs.Outcomes.{result_of};
+ghost use Rattle.prims_tree.specs.Views.{offer_of, with_ahead};
 
-use crate::parts::{PartTerms, Parts};
-use crate::splits::Splits;
+use crate::placed::PlacedOffers;
 use std::alloc::Global;
 use std::marker::Model;
 use term_core::{List, Memory, Term};
@@ -18,88 +18,38 @@ pub struct Offer {
     pub fresh: u64,
 }
 
-// What is left to give: one result or none, some that were made before, or the parts of a text.
-#[derive(Debug, Drop)]
-pub(crate) enum Left {
-    Ready(Option<Offer>),
-    // the first of them last
-    Several(Vec<Offer>),
-    Splits(Splits),
-    Parts(Parts),
-}
-
 /// The results that a primitive has left, which contracts see as their list. Each is made when it is
 /// asked for.
 #[derive(Debug, Drop)]
 pub struct Offers {
-    left: Left,
+    arguments: Vec<Term>,
+    // the next result, where it was asked for and there was no memory for its pairs
+    ahead: Option<tree_results::Offer>,
+    later: PlacedOffers,
 }
 
 impl Model for Offers {
-    ghost use Rattle.std.specs.Prelude.{List as list};
+    ghost use Rattle.std.specs.Prelude.{List as list, map};
     ghost use Rattle.builtin_table.specs.Primitives.{Offer as offer};
-    ghost use Rattle.prims_tree.specs.Views.{offers_of, coded_offers};
+    ghost use Rattle.tree_results.specs.Placed.{for_arguments};
+    ghost use Rattle.prims_tree.specs.Views.{coded_offers, with_ahead};
 
     ghost Value = { list offer };
 
     ghost coded = { coded_offers };
 
-    ghost view = { λ o. offers_of o.left };
+    ghost view = { λ o. map (for_arguments o.arguments.items) (with_ahead o.ahead o.later) };
 }
 
 impl Offers {
-    /// No result.
-    pub(crate) fn none() -> Offers
-        ensures { result ≡ [] }
+    /// These results for these arguments.
+    pub fn over(arguments: Vec<Term>, results: PlacedOffers) -> Offers
+        ensures { result ≡ map (for_arguments arguments.items) results }
     {
         Offers {
-            left: Left::Ready(None),
-        }
-    }
-
-    /// This result alone.
-    pub(crate) fn one(offer: Offer) -> Offers
-        ensures { result ≡ offer_of offer ∷ [] }
-    {
-        Offers {
-            left: Left::Ready(Some(offer)),
-        }
-    }
-
-    /// The two parts of a text by the length of the first, from 0 on.
-    pub(crate) fn splits(first: Term, second: Term, characters: Vec<char>) -> Offers
-        ensures { result ≡ splits_from first second characters.items 0 }
-    {
-        Offers {
-            left: Left::Splits(Splits {
-                first,
-                second,
-                characters,
-                at: 0,
-            }),
-        }
-    }
-
-    /// The parts of a text by their places, then by their length.
-    pub(crate) fn parts(terms: PartTerms, characters: Vec<char>) -> Offers
-        ensures { result ≡ parts_from (part_terms_of terms) characters.items 0 }
-    {
-        Offers {
-            left: Left::Parts(Parts {
-                terms,
-                characters,
-                start: 0,
-                len: 0,
-            }),
-        }
-    }
-
-    /// These results, the first of them last.
-    pub fn several(offers: Vec<Offer>) -> Offers
-        ensures { result ≡ reverse (map offer_of offers.items) }
-    {
-        Offers {
-            left: Left::Several(offers),
+            arguments,
+            ahead: None,
+            later: results,
         }
     }
 
@@ -109,18 +59,52 @@ impl Offers {
             MatchOption r ((self.old ≡ []) × (self.new ≡ [])) (λ o. self.old ≡ offer_of o ∷ self.new)) }
         ensures err { OnErr result (self.new ≡ self.old) }
     {
-        match &mut self.left {
-            Left::Ready(offer) => Ok(offer.take()),
-            Left::Several(offers) => Ok(next_of(offers)),
-            Left::Splits(splits) => splits.next(alloc),
-            Left::Parts(parts) => parts.next(alloc),
-        }
+        find_first(alloc, &mut self.ahead, &mut self.later)?;
+        let Some(result) = &self.ahead else {
+            return Ok(None);
+        };
+        let offer = over(alloc, &self.arguments, result)?;
+        self.ahead = None;
+        Ok(Some(offer))
     }
 }
 
-// Takes the last of these.
-fn next_of(offers: &mut Vec<Offer>) -> Option<Offer>
-    ensures { MatchOption result ((reverse (map offer_of offers.old.items) ≡ []) × (reverse (map offer_of offers.new.items) ≡ [])) (λ o. reverse (map offer_of offers.old.items) ≡ offer_of o ∷ reverse (map offer_of offers.new.items)) }
+/// Takes the first of the later results, where none is ahead of them.
+pub fn find_first(
+    alloc: Global,
+    ahead: &mut Option<tree_results::Offer>,
+    later: &mut PlacedOffers,
+) -> Result<(), Memory>
+    ensures same { with_ahead ahead.new later.new ≡ with_ahead ahead.old later.old }
+    ensures none { OnOk result (ahead.new ≡ None → later.new ≡ []) }
 {
-    offers.pop()
+    if ahead.is_none() {
+        *ahead = later.next(alloc)?;
+    }
+    Ok(())
+}
+
+// The argument of a place; the empty atom where there is none.
+fn argument(alloc: Global, arguments: &[Term], place: u32) -> Result<Term, Memory>
+    ensures { IfOk result (λ t. t ≡ argument_of arguments.now place) }
+{
+    match arguments.get(place as usize) {
+        Some(term) => term.copied(alloc),
+        None => Term::atom(alloc, ""),
+    }
+}
+
+// A result for these arguments.
+fn over(alloc: Global, arguments: &[Term], placed: &tree_results::Offer) -> Result<Offer, Memory>
+    ensures { IfOk result (λ o. offer_of o ≡ for_arguments arguments.now (result_of placed.now)) }
+{
+    let mut pairs = List::new(alloc);
+    for pair in placed.pairs.as_slice() {
+        let argument = argument(alloc, arguments, pair.0)?;
+        pairs.push((argument, pair.1.copied(alloc)?))?;
+    }
+    Ok(Offer {
+        pairs,
+        fresh: placed.fresh,
+    })
 }

@@ -1,158 +1,32 @@
-// What findall/3, bagof/3 and setof/3 make of a goal's solutions (ISO/IEC 13211-1, 8.10).
-ghost use Rattle.std.specs.Prelude.{◌≡◌, map, reverse, IfOk};
-ghost use Rattle.builtin_table.specs.Sorting.{sorted};
-ghost use Rattle.builtin_table.specs.Solutions.{findall_offers as findall_offers_of, grouped as grouped_of, group_offer as group_offer_of, group_offers as group_offers_of, key_cmp, keyed as keyed_of, parts as parts_of};
-ghost use Rattle.prims_tree.specs.Views.{offer_of};
-ghost use Rattle.prims_tree.specs.Groups.{arranged as arranged_of, first_is_other, groups_of};
+// What findall/3, bagof/3 and setof/3 offer.
+ghost use Rattle.std.specs.Prelude.{◌≡◌, [], ◌∷◌, IfOk};
+ghost use Rattle.builtin_table.specs.Solutions.{findall_offers as findall_offers_of, group_offers as group_offers_of};
+ghost use Rattle.tree_lists.specs.Groups.{arranged as arranged_of, placed_groups, placed_list};
 
-use crate::lists::list_of;
-use crate::offer::{Offer, Offers};
+use crate::offer::Offers;
+use crate::placed::PlacedOffers;
 use std::alloc::Global;
-use std::mem;
-use term_core::{List, Memory, Term};
+use term_core::{Memory, Term};
+use tree_lists::{Arrangement, findall_results, group_results};
 
-/// How the list of a group's results is made.
-#[derive(Clone, Copy, Drop)]
-pub enum Arrangement {
-    /// As the solutions come, as bagof/3 does.
-    AsFound,
-    /// Sorted by the standard order, each of equal ones once, as setof/3 does.
-    Sorted,
-}
-
-// W and T of a solution W-T.
-fn parts(alloc: Global, solution: &Term) -> Result<(Term, Term), Memory>
-    ensures { IfOk result (λ p. p ≡ parts_of solution.now) }
-{
-    let mut arguments = solution.arguments(alloc)?;
-    if arguments.len() == 2 {
-        let result = arguments.remove(1);
-        let witness = arguments.remove(0);
-        return Ok((witness, result));
-    }
-    Ok((solution.copied(alloc)?, solution.copied(alloc)?))
-}
-
-// The solutions, each with its key.
-fn keyed(alloc: Global, solutions: &[Term]) -> Result<Vec<(Term, Term)>, Memory>
-    ensures { IfOk result (λ v. v.items ≡ map keyed_of solutions.now) }
-{
-    let mut all = Vec::new(alloc);
-    for solution in solutions {
-        all.push((key(alloc, solution)?, solution.copied(alloc)?))?;
-    }
-    Ok(all)
-}
-
-// A solution's witness with its variables numbered by first occurrence.
-fn key(alloc: Global, solution: &Term) -> Result<Term, Memory>
-    ensures { IfOk result (λ k. k ≡ (keyed_of solution.now).0) }
-{
-    let (witness, _) = parts(alloc, solution)?;
-    witness.numbered(alloc)
-}
-
-// The solutions in the order of their keys.
-fn sorted_by_key(solutions: Vec<(Term, Term)>) -> Result<Vec<(Term, Term)>, Memory>
-    ensures { IfOk result (λ v. v.items ≡ sorted key_cmp solutions.items) }
-{
-    let mut solutions = solutions;
-    solutions.sort_by(|a, b| Term::cmp(&a.0, &b.0))?;
-    Ok(solutions)
-}
-
-// Whether the group has a first solution, which stands last, and the key of that is another.
-fn is_other(group: &[(Term, Term)], key: &Term) -> bool
-    ensures { result ≡ first_is_other (reverse group.now) key.now }
-{
-    match group.last() {
-        Some(first) => !Term::cmp(key, &first.0).is_eq(),
-        None => false,
-    }
-}
-
-// The solutions of one key together, the last group first and in each the last solution first.
-fn grouped(alloc: Global, solutions: Vec<(Term, Term)>) -> Result<Vec<List<(Term, Term)>>, Memory>
-    ensures { IfOk result (λ v. groups_of v.items ≡ grouped_of solutions.items) }
-{
-    let mut rest = solutions;
-    let mut groups = Vec::new(alloc);
-    let mut group = List::new(alloc);
-    while let Some(solution) = rest.pop() {
-        if is_other(group.as_slice(), &solution.0) {
-            groups.push(mem::replace(&mut group, List::new(alloc)))?;
-        }
-        group.push(solution)?;
-    }
-    if group.len() > 0 {
-        groups.push(group)?;
-    }
-    Ok(groups)
-}
-
-// A group's results as they come, or sorted without equals.
-fn arranged(arrangement: Arrangement, results: Vec<Term>) -> Result<Vec<Term>, Memory>
-    ensures { IfOk result (λ v. v.items ≡ arranged_of arrangement results.items) }
-{
-    let mut results = results;
-    match arrangement {
-        Arrangement::AsFound => Ok(results),
-        Arrangement::Sorted => {
-            results.sort()?;
-            results.dedup();
-            Ok(results)
-        }
-    }
-}
-
-// What a group offers; its last solution comes first.
-fn group_offer(
-    alloc: Global,
-    arrangement: Arrangement,
-    witness: &Term,
-    list: &Term,
-    group: List<(Term, Term)>,
-) -> Result<Offer, Memory>
-    ensures { IfOk result (λ o. offer_of o ≡ group_offer_of (arranged_of arrangement) witness.now list.now (reverse group)) }
-{
-    let mut group = group;
-    let mut pairs = List::new(alloc);
-    let mut results = Vec::new(alloc);
-    while let Some((_key, solution)) = group.pop() {
-        let (instance, result) = parts(alloc, &solution)?;
-        pairs.push((witness.copied(alloc)?, instance))?;
-        results.push(result)?;
-    }
-    let results = arranged(arrangement, results)?;
-    pairs.push((list.copied(alloc)?, list_of(alloc, &results)?))?;
-    Ok(Offer { pairs, fresh: 0 })
-}
-
-// What the groups offer, where the last group comes first.
-fn offers_of_groups(
-    alloc: Global,
-    arrangement: Arrangement,
-    witness: &Term,
-    list: &Term,
-    groups: Vec<List<(Term, Term)>>,
-) -> Result<Offers, Memory>
-    ensures { IfOk result (λ os. os ≡ map (group_offer_of (arranged_of arrangement) witness.now list.now) (groups_of groups.items)) }
-{
-    let mut groups = groups;
-    let mut offers = Vec::new(alloc);
-    while let Some(group) = groups.pop() {
-        offers.push(group_offer(alloc, arrangement, witness, list, group)?)?;
-    }
-    offers.reverse();
-    Ok(Offers::several(offers))
-}
-
-/// What bagof/3 or setof/3 offers for solutions W-T: one result for each group of solutions whose W are
-/// variants, by the standard order of W with its variables numbered.
+/// What bagof/3 or setof/3 offers for solutions W-T over two arguments, the witness and the list: one result
+/// for each group of solutions whose W are variants, by the standard order of W with its variables numbered.
 ///
 /// A result's pairs make the witness one with each W of its group, in the order of the solutions, and then
-/// the list argument one with the list of the terms T. `Memory` also where a term would have more than
+/// the list one with the list of the terms T. `Memory` also where a term would have more than
 /// `term_core::MAX_NODES` nodes.
+pub fn placed_group_offers(
+    alloc: Global,
+    arrangement: Arrangement,
+    solutions: &[Term],
+) -> Result<PlacedOffers, Memory>
+    ensures { IfOk result (λ os. os ≡ placed_groups (arranged_of arrangement) solutions.now) }
+{
+    Ok(PlacedOffers::several(group_results(alloc, arrangement, solutions)?))
+}
+
+/// The same for a witness and a list.
+#[tactic(auto, using(tree_lists::proofs::ForArguments::groups_for))]
 pub fn group_offers(
     alloc: Global,
     arrangement: Arrangement,
@@ -162,9 +36,18 @@ pub fn group_offers(
 ) -> Result<Offers, Memory>
     ensures { IfOk result (λ os. os ≡ group_offers_of (arranged_of arrangement) witness.now list.now solutions.now) }
 {
-    let solutions = sorted_by_key(keyed(alloc, solutions)?)?;
-    let groups = grouped(alloc, solutions)?;
-    offers_of_groups(alloc, arrangement, witness, list, groups)
+    let results = placed_group_offers(alloc, arrangement, solutions)?;
+    let arguments = vec![in alloc; witness.copied(alloc)?, list.copied(alloc)?]?;
+    Ok(Offers::over(arguments, results))
+}
+
+/// What findall/3 offers over two arguments: the second is the list of the solutions.
+///
+/// `Memory` also where the list would have more than `term_core::MAX_NODES` nodes.
+pub fn placed_findall_offers(alloc: Global, solutions: &[Term]) -> Result<PlacedOffers, Memory>
+    ensures { IfOk result (λ os. os ≡ placed_list solutions.now ∷ []) }
+{
+    Ok(PlacedOffers::several(findall_results(alloc, solutions)?))
 }
 
 /// What findall/3 offers: the list argument is the list of the solutions.
@@ -173,8 +56,7 @@ pub fn group_offers(
 pub fn findall_offers(alloc: Global, list: Term, solutions: &[Term]) -> Result<Offers, Memory>
     ensures { IfOk result (λ os. os ≡ findall_offers_of list solutions.now) }
 {
-    let mut pairs = List::new(alloc);
-    pairs.push((list, list_of(alloc, solutions)?))?;
-    let offer = Offer { pairs, fresh: 0 };
-    Ok(Offers::several(vec![in alloc; offer]?))
+    let results = placed_findall_offers(alloc, solutions)?;
+    let arguments = vec![in alloc; Term::atom(alloc, "[]")?, list]?;
+    Ok(Offers::over(arguments, results))
 }

@@ -3,5 +3,6 @@ pub mod ByPredicate
 pub mod Clauses
 pub mod Kept
 pub mod Laws
+pub mod Loaded
 pub mod Source
 pub mod Symbols

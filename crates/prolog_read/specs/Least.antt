@@ -54,7 +54,8 @@ pub record SyntaxAt (ops : Table) (text : Bytes) (at : ℕ) : Type 0 where
 
 -- the sentences aren't clauses, and nothing behind them, for what stands at this place
 abbrev pub ClausesSyntaxAt : Table → Bytes → List Sentence → List Token → ℕ → Type 0
-ClausesSyntaxAt ops text [] rest at = SyntaxIn ops text rest (length text) at ⊎ SyntaxBehind ops text rest (length text) at
+ClausesSyntaxAt ops text [] [] at = ⊥
+ClausesSyntaxAt ops text [] (t ∷ ts) at = SyntaxIn ops text (t ∷ ts) (length text) at ⊎ SyntaxBehind ops text (t ∷ ts) (length text) at
 ClausesSyntaxAt ops text (s ∷ ss) rest at =
     SyntaxIn ops text s.0 s.1 at ⊎ ((t : Tree) × (names : Names) × IsTermOf ops text s.0 t names × ClausesSyntaxAt (obeyed t ops) text ss rest at)
 

@@ -14,6 +14,7 @@ use Rattle.read_back.proofs.Spelled.{Item, variable_item, integer_item, name_ite
 use Rattle.read_back.proofs.Ascii.{ascii_first, Digits, digits_of}
 use Rattle.read_back.proofs.Segments.{Segment, space, text_of, AreRead}
 use Rattle.read_back.proofs.Seen.{seen, closes, read_seen}
+use Rattle.read_back.proofs.WriterNames.{Hide}
 use Rattle.read_back.proofs.Keys.{item_counted, item_names, threaded}
 use Rattle.read_back.proofs.Spelt.{Spelt, Next, Unpaired, is_operand, has_no_end, item_text, leaves}
 use Rattle.read_back.proofs.Numbers.{digit_no_symbol, variable_spelt, integer_spelt, mark_spelt}
@@ -72,6 +73,16 @@ spaced_ends false ss u = u
 pub no_ends : (c : ℕ) (p : Bool) (xs : List Item) (h : AreSpelt xs) → has_no_end (segments c p xs h) ≡ true
 no_ends c p [] h = refl
 no_ends c p (x ∷ xs) h = spaced_ends (is_spaced c p (first (item_text x))) _ (h.0.no_end (behind_item x xs h.3) (no_ends (last (item_text x)) (piece_of Quoted x).is_prefix xs h.3))
+
+-- ---- their variables
+
+spaced_hide : (b : Bool) (ss : List Segment) → Hide ss → Hide (cond b (space ∷ []) [] ++ ss)
+spaced_hide true ss u = u
+spaced_hide false ss u = u
+
+pub they_hide : (c : ℕ) (p : Bool) (xs : List Item) (h : AreSpelt xs) → Hide (segments c p xs h)
+they_hide c p [] h = tt
+they_hide c p (x ∷ xs) h = spaced_hide (is_spaced c p (first (item_text x))) _ (h.0.hides (behind_item x xs h.3) (they_hide (last (item_text x)) (piece_of Quoted x).is_prefix xs h.3))
 
 -- ---- what follows an item
 

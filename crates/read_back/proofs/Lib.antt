@@ -23,5 +23,6 @@ mod Spelled
 mod Spelt
 mod TermLayout
 mod Terms
+mod WriterNames
 mod Written
 mod Yields

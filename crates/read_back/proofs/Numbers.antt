@@ -115,6 +115,7 @@ negative_of n l h = record {
   front = λ ss. refl;
   reads = λ ss m r. (omega arith, minus_token.reads (cs ++ text_of ss) (ends_at_digit h.head (one_digit (suc n) h)), (digits.some, digits.reads (text_of ss) (may (slice_index (text_of ss) 0) m), r));
   no_end = λ ss u. u;
+  hides = λ ss u. (λ s a. a, (λ s a. a, u));
   lexemes = λ d k s ss u. read d k s (seen true ss) (never_closes integer_token (λ k. refl) (seen true ss));
   square = λ d ss. refl;
   curly = λ d ss. refl;

@@ -2,7 +2,7 @@
 use Rattle.std.specs.Prelude.{◌≡◌, refl, ℕ, ◌<◌, ◌≤◌, Bool, true, false, not, ◌&&◌, ◌||◌, ◌==◌, List, [], ◌∷◌, ◌++◌, length, slice_index, ⊤}
 use Rattle.std.specs.Char.{is_ascii_lowercase}
 use Rattle.std.specs.Str.{encode_utf8_all, all_scalars}
-use Rattle.std.proofs.Common.{arith, ap, ◌∙◌, subst}
+use Rattle.std.proofs.Common.{arith, ap, sym, ◌∙◌, subst}
 use Rattle.std.proofs.lemmas.Bool.{or_parts, not_from_false, and_from}
 use Rattle.std.proofs.lemmas.Str.{encodes-append}
 use Rattle.term_core.specs.Tokens.{Text, Kind, open_list_token, open_curly_token, value}
@@ -12,6 +12,8 @@ use Rattle.prolog_read.specs.Variables.{Numbering}
 use Rattle.prolog_read.specs.Reads.{is_end}
 use Rattle.prolog_read.specs.Lexemes.{is_pair, variables_behind}
 use Rattle.prolog_read.specs.Lexemes as reader
+use Rattle.read_back.specs.Laws.{AreHidden}
+use Rattle.read_back.proofs.WriterNames.{Hide, item_hides}
 use Rattle.read_back.proofs.Spelled.{Item, variable_item, integer_item, name_item, mark_item, infix_item, open_square, open_curly, piece_of, is_close_square, is_close_curly, open_behind}
 use Rattle.read_back.proofs.Ascii.{scalars_append}
 use Rattle.read_back.proofs.Classes.{continues_is, symbol_is}
@@ -80,6 +82,7 @@ pub record Spelt (x : Item) : Type 0 where
   pub front : (ss : List Segment) → slice_index (text_of (segments ++ ss)) 0 ≡ first (item_text x)
   pub reads : (ss : List Segment) → Next x (slice_index (text_of ss) 0) → AreRead ss → AreRead (segments ++ ss)
   pub no_end : (ss : List Segment) → has_no_end ss ≡ true → has_no_end (segments ++ ss) ≡ true
+  pub hides : (ss : List Segment) → Hide ss → Hide (segments ++ ss)
   pub lexemes : (d : Bool) (n : ℕ) (s : Numbering) (ss : List Segment) → Unpaired x (seen (leaves x) ss) →
       read_seen false n s (seen d (segments ++ ss)) ≡ item_counted n s d x ++ read_seen false (open_behind n x) (item_names s x) (seen (leaves x) ss)
   pub square : (d : Bool) (ss : List Segment) → closes open_list_token (seen d (segments ++ ss)) ≡ is_close_square x
@@ -115,6 +118,7 @@ single x kind cs before h t may = record {
   front = λ ss. front_of cs (text_of ss) t.some ∙ h.front;
   reads = λ ss n r. (t.some, t.reads (text_of ss) (may (slice_index (text_of ss) 0) n), r);
   no_end = λ ss u. rw (h.no_end, u) refl;
+  hides = λ ss u. (λ s a. subst (λ (m : Numbering). AreHidden m.names) (sym (h.names s)) (item_hides x s a), u);
   lexemes = λ d n s ss u. read d n s ss u;
   square = λ d ss. h.square;
   curly = λ d ss. h.curly;

@@ -25,7 +25,7 @@ use Rattle.prolog_read.specs.Reads.{before_end, from_end, is_end, names_of, IsTe
 use Rattle.prolog_read.specs.Clauses.{iso}
 use Rattle.prolog_read.specs.Outcome.{Answer, ReadAs, term_read}
 use Rattle.prolog_read.proofs.Exact.{reads_found}
-use Rattle.read_back.specs.Laws.{quotes_names, IsReadAs, WhatIsWrittenIsReadAgain}
+use Rattle.read_back.specs.Laws.{AreHidden, quotes_names, IsReadAs, WhatIsWrittenIsReadAgain}
 use Rattle.read_back.specs.Sound.{IsSound}
 use Rattle.read_back.proofs.Spelled.{Item, piece_of, FollowedBy, AreApart, brackets}
 use Rattle.read_back.proofs.Spelled as item
@@ -33,7 +33,8 @@ use Rattle.read_back.proofs.TermLayout.{layout, items}
 use Rattle.read_back.proofs.Apart.{AreApart-items}
 use Rattle.read_back.proofs.Grammar.{AreRead, are_read, key}
 use Rattle.read_back.proofs.Keys.{zipped, threaded, threaded_by_keys, keys, lexemes-zipped, brackets-zipped}
-use Rattle.read_back.proofs.Lexed.{are_spelt, segments, their_bytes, their_scalars, no_ends, all_read, from_start}
+use Rattle.read_back.proofs.Lexed.{are_spelt, segments, their_bytes, their_scalars, no_ends, they_hide, all_read, from_start}
+use Rattle.read_back.proofs.WriterNames.{AllHide, seen_hide, names_hidden}
 use Rattle.read_back.proofs.Pieces.{spelled}
 use Rattle.read_back.proofs.Seen.{counted, read_seen, lexemes_seen, sees}
 use Rattle.read_back.proofs.Segments.{Segment, space, written, text_of, placed, lexed}
@@ -66,6 +67,7 @@ record HasTokens (text : List ℕ) (xs : List Item) : Type 0 where
   before : before_end all ≡ all
   none : from_end all ≡ []
   placed : map counted (reader.placed text nothing_before all) ≡ threaded 0 start false xs
+  hidden : AreHidden (names_of text all)
 
 has_tokens : (xs : List Item) → AreApart xs → HasTokens (written_of xs) xs
 unfolding spec.tokens
@@ -83,6 +85,7 @@ has_tokens xs a =
       before = before_none 0 ss end;
       none = from_none 0 ss end;
       placed = lexemes_seen text nothing_before (placed 0 ss) ∙ ap (read_seen false 0 start) (sees text [] 0 ss None false refl (sym bytes) scalars refl) ∙ from_start xs h;
+      hidden = names_hidden text nothing_before (placed 0 ss) (subst AllHide (sym (sees text [] 0 ss None false refl (sym bytes) scalars refl)) (seen_hide false ss (they_hide 0 false xs h))) refl;
     }
 
 -- ---- its term
@@ -120,12 +123,14 @@ term_of t xs text a r h =
 record IsRead (written : List ℕ) (t : Tree) : Type 0 where
   names : Names
   reads : Reads iso written t names
+  hidden : AreHidden names
 
 read_as : (t : Tree) (xs : List Item) → AreApart xs → AreRead t xs → IsRead (written_of xs) (numbered t)
 read_as t xs a r =
     let h = has_tokens xs a in
     record {
       names = names_of (written_of xs) h.all;
+      hidden = h.hidden;
       reads = record {
         all = h.all;
         tokens = h.tokens;
@@ -143,6 +148,7 @@ no_other : (text : List ℕ) (t : Tree) → IsRead text t → IsReadAs text t
 no_other text t h = record {
   names = h.names;
   reads = h.reads;
+  hidden = h.hidden;
   only = λ u others r.
       let same = one_answer (term_read iso text) (t, h.names) (u, others) (reads_found iso text t h.names h.reads) (reads_found iso text u others r) in
       (ap (λ x. x.0) same, ap (λ x. x.1) same);

@@ -1,6 +1,7 @@
 pub mod Acts
 pub mod LinePlaces
 pub mod LineStarts
+pub mod Naming
 pub mod OptionLists
 pub mod Printed
 pub mod Programs

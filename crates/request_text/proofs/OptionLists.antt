@@ -6,9 +6,9 @@ use Rattle.std.proofs.lemmas.List.{take_more}
 use Rattle.std.proofs.lemmas.List.Elements.{filter_map-append}
 use Rattle.term_core.specs.Tree.{Tree, variable, integer, atom, compound, no_trees, tree}
 use Rattle.term_core.specs.Parts.{arguments_of}
-use Rattle.event_core.specs.declared.settings.TheConstants.Settings.{DEFAULT}
-use Rattle.event_core.specs.declared.limits.TheConstants.{MAX_LIMIT}
-use Rattle.request_text.specs.declared.options.TheConstants.{MAX_CHUNK}
+use Rattle.term_core.specs.declared.app.App.{App}
+use Rattle.request_text.specs.Limits.{greatest_limit, default_settings}
+use Rattle.event_core.specs.declared.limits.TheConstants.{MAX_CHUNK}
 use Rattle.request_text.specs.declared.options.Given.{Given}
 use Rattle.request_text.specs.declared.options.Given.TheVariants.{Never, Once, Again}
 use Rattle.request_text.specs.Shapes.{is_compound, at_most}
@@ -188,18 +188,18 @@ is_create_name t = by (is_compound (codes "chunk") 1 t) (is_compound (codes "lim
     by false false true = refl
     by false false false = refl
 
-create_many : (ts : List Tree) → 3 < length ts → settings_of ts ≡ None
+create_many : (app : App) (ts : List Tree) → 3 < length ts → settings_of app ts ≡ None
 unfolding create_names
-create_many ts long =
+create_many app ts long =
     if_false (list_all is_create_option ts) _
-    (λ all. refused (given_for (codes "chunk") ts) (number_or DEFAULT.chunk MAX_CHUNK) _ refl
-    (λ once c. refused (given_for (codes "limit") ts) (number_or DEFAULT.limit MAX_LIMIT) _ refl
-    (λ again n. refused (given_for (codes "destroy") ts) (flag_or DEFAULT.destroys) _ refl
+    (λ all. refused (given_for (codes "chunk") ts) (number_or (default_settings app).chunk MAX_CHUNK) _ refl
+    (λ once c. refused (given_for (codes "limit") ts) (number_or (default_settings app).limit (greatest_limit app)) _ refl
+    (λ again n. refused (given_for (codes "destroy") ts) (flag_or (default_settings app).destroys) _ refl
     (λ more d. absurd (omega (arith, all_counted create_names is_create_option is_create_name ts all, given_once _ once, given_once _ again, given_once _ more))))))
 
-pub settings_few : (o : Option (List Tree)) (ts : List Tree) → at_most 3 o ≡ Some ts → settings_of ts ≡ and_then o settings_of
-settings_few o ts h = ap (λ p. and_then p settings_of) (sym (is_few 3 o ts h))
+pub settings_few : (app : App) (o : Option (List Tree)) (ts : List Tree) → at_most 3 o ≡ Some ts → settings_of app ts ≡ and_then o (settings_of app)
+settings_few app o ts h = ap (λ p. and_then p (settings_of app)) (sym (is_few 3 o ts h))
 
-pub settings_none : (o : Option (List Tree)) → at_most 3 o ≡ None → None ≡ and_then o settings_of
-settings_none None h = refl
-settings_none (Some ts) h = sym (create_many ts (is_many 3 ts h))
+pub settings_none : (app : App) (o : Option (List Tree)) → at_most 3 o ≡ None → None ≡ and_then o (settings_of app)
+settings_none app None h = refl
+settings_none app (Some ts) h = sym (create_many app ts (is_many 3 ts h))

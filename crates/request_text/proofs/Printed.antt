@@ -10,7 +10,7 @@ use Rattle.request_text.specs.Lines.{sent_step, sent_brings, late, lines_with_la
 use Rattle.request_text.proofs.Acts.{full_is_sent}
 
 -- after the end nothing is brought
-brings_closed : (spec : Spec) (ss : List Sent) → sent_brings spec ss Closed ≡ []
+pub brings_closed : (spec : Spec) (ss : List Sent) → sent_brings spec ss Closed ≡ []
 brings_closed spec [] = refl
 brings_closed spec (Request r ∷ ss) = brings_closed spec ss
 brings_closed spec (Abort ∷ ss) = brings_closed spec ss

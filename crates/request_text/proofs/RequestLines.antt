@@ -6,7 +6,8 @@ use Rattle.prolog_read.specs.declared.fault.ReadFault.TheVariants as read
 use Rattle.prolog_read.specs.Clauses.{iso}
 use Rattle.prolog_read.specs.Outcome.{term_read, Tells}
 use Rattle.event_core.specs.declared.settings.Settings.{Settings}
-use Rattle.event_core.specs.declared.settings.TheConstants.Settings.{DEFAULT}
+use Rattle.term_core.specs.declared.app.App.{App}
+use Rattle.request_text.specs.Limits.{default_settings}
 use Rattle.request_text.specs.declared.fault.ScriptFault.{ScriptFault}
 use Rattle.request_text.specs.declared.sent.Sent.{Sent}
 use Rattle.request_text.specs.Spelled.{is_passed, request_at, put_first, requests_in, Session, session_of, settings_at, session_from, session_in}
@@ -83,31 +84,31 @@ module _ {B : Type 0} (now : B → List ℕ) (ls : List B) where
 
   -- ---- the line `create(Options)`
 
-  session_none : (n : ℕ) → session_in n [] ≡ Ok (record { settings = DEFAULT; lines = [] })
+  session_none : (app : App) (n : ℕ) → session_in app n [] ≡ Ok (record { settings = (default_settings app); lines = [] })
   unfolding session_in
-  session_none n = refl
+  session_none app n = refl
 
-  session_some : (n : ℕ) (l : List ℕ) (ks : List (List ℕ)) (b : Bool) → is_passed l ≡ b → session_in n (l ∷ ks) ≡ elim b [ true ↦ session_in (n + 1) ks | false ↦ session_from (settings_at (term_read iso l)) n l ks ]
+  session_some : (app : App) (n : ℕ) (l : List ℕ) (ks : List (List ℕ)) (b : Bool) → is_passed l ≡ b → session_in app n (l ∷ ks) ≡ elim b [ true ↦ session_in app (n + 1) ks | false ↦ session_from app (settings_at app (term_read iso l)) n l ks ]
   unfolding session_in
-  session_some n l ks true e = rw e refl
-  session_some n l ks false e = rw e refl
+  session_some app n l ks true e = rw e refl
+  session_some app n l ks false e = rw e refl
 
-  pub session_passed : (o : Result Session ScriptFault) (i : ℕ) (d : B) → o ≡ session_in (i + 1) (from i) → i < length ls → is_passed (now (get_or ls i d)) ≡ true → o ≡ session_in ((i + 1) + 1) (from (i + 1))
-  session_passed o i d e lt h = e ∙ ap (session_in (i + 1)) (from_more i d lt) ∙ session_some (i + 1) (now (get_or ls i d)) (from (i + 1)) true h
+  pub session_passed : (app : App) (o : Result Session ScriptFault) (i : ℕ) (d : B) → o ≡ session_in app (i + 1) (from i) → i < length ls → is_passed (now (get_or ls i d)) ≡ true → o ≡ session_in app ((i + 1) + 1) (from (i + 1))
+  session_passed app o i d e lt h = e ∙ ap (session_in app (i + 1)) (from_more i d lt) ∙ session_some app (i + 1) (now (get_or ls i d)) (from (i + 1)) true h
 
   -- the first line that isn't passed over
-  pub session_opens : (o : Result Session ScriptFault) (i : ℕ) (d : B) (s : Option Settings) → o ≡ session_in (i + 1) (from i) → i < length ls → is_passed (now (get_or ls i d)) ≡ false → s ≡ settings_at (term_read iso (now (get_or ls i d))) →
-      o ≡ elim s [ Some t ↦ session_of t (requests_in ((i + 1) + 1) (from (i + 1))) | None ↦ session_of DEFAULT (requests_in (i + 1) (from i)) ]
-  session_opens o i d s e lt h is =
-      e ∙ ap (session_in (i + 1)) (from_more i d lt) ∙ session_some (i + 1) (now (get_or ls i d)) (from (i + 1)) false h
-      ∙ ap (λ t. session_from t (i + 1) (now (get_or ls i d)) (from (i + 1))) (sym is) ∙ by s
+  pub session_opens : (app : App) (o : Result Session ScriptFault) (i : ℕ) (d : B) (s : Option Settings) → o ≡ session_in app (i + 1) (from i) → i < length ls → is_passed (now (get_or ls i d)) ≡ false → s ≡ settings_at app (term_read iso (now (get_or ls i d))) →
+      o ≡ elim s [ Some t ↦ session_of t (requests_in ((i + 1) + 1) (from (i + 1))) | None ↦ session_of (default_settings app) (requests_in (i + 1) (from i)) ]
+  session_opens app o i d s e lt h is =
+      e ∙ ap (session_in app (i + 1)) (from_more i d lt) ∙ session_some app (i + 1) (now (get_or ls i d)) (from (i + 1)) false h
+      ∙ ap (λ t. session_from app t (i + 1) (now (get_or ls i d)) (from (i + 1))) (sym is) ∙ by s
     where
-      by : (s : Option Settings) → session_from s (i + 1) (now (get_or ls i d)) (from (i + 1)) ≡ elim s [ Some t ↦ session_of t (requests_in ((i + 1) + 1) (from (i + 1))) | None ↦ session_of DEFAULT (requests_in (i + 1) (from i)) ]
+      by : (s : Option Settings) → session_from app s (i + 1) (now (get_or ls i d)) (from (i + 1)) ≡ elim s [ Some t ↦ session_of t (requests_in ((i + 1) + 1) (from (i + 1))) | None ↦ session_of (default_settings app) (requests_in (i + 1) (from i)) ]
       by (Some t) = refl
-      by None = ap (λ ks. session_of DEFAULT (requests_in (i + 1) ks)) (sym (from_more i d lt))
+      by None = ap (λ ks. session_of (default_settings app) (requests_in (i + 1) ks)) (sym (from_more i d lt))
 
   -- all lines are passed over
-  pub session_empty : (o : Result Session ScriptFault) (i : ℕ) → o ≡ session_in (i + 1) (from i) → length ls ≤ i → o ≡ session_of DEFAULT (requests_in (length ls + 1) (from (length ls)))
-  session_empty o i e le =
-      e ∙ ap (session_in (i + 1)) (from_end i le) ∙ session_none (i + 1)
-      ∙ ap (session_of DEFAULT) (sym (ap (requests_in (length ls + 1)) (from_end (length ls) (omega arith)) ∙ requests_none (length ls + 1)))
+  pub session_empty : (app : App) (o : Result Session ScriptFault) (i : ℕ) → o ≡ session_in app (i + 1) (from i) → length ls ≤ i → o ≡ session_of (default_settings app) (requests_in (length ls + 1) (from (length ls)))
+  session_empty app o i e le =
+      e ∙ ap (session_in app (i + 1)) (from_end i le) ∙ session_none app (i + 1)
+      ∙ ap (session_of (default_settings app)) (sym (ap (requests_in (length ls + 1)) (from_end (length ls) (omega arith)) ∙ requests_none (length ls + 1)))

@@ -1,9 +1,10 @@
 -- What is written of what is sent is read as that again.
-use Rattle.std.proofs.Common.{◌≡◌, ◌≢◌, ℕ, zero, suc, ◌≤◌, Bool, true, false, [], ◌∷◌, ◌++◌, length, Option, Some, None, Ok, refl, ap, sym, arith, codes, if◌then◌else◌}
+use Rattle.std.proofs.Common.{◌≡◌, ◌≢◌, ℕ, zero, suc, ◌≤◌, Bool, true, false, not, List, [], ◌∷◌, ◌++◌, length, Option, Some, None, Ok, refl, ap, sym, arith, codes, if◌then◌else◌}
 use Rattle.std.specs.Ordering.{is_eq}
 use Rattle.std.specs.declared.cmp.Ordering.{Ordering}
 use Rattle.std.specs.declared.cmp.Ordering.TheVariants.{Less, Equal, Greater}
-use Rattle.std.proofs.lemmas.Bool.{le-leb, false≢true}
+use Rattle.std.specs.List.{list_all}
+use Rattle.std.proofs.lemmas.Bool.{and_parts, le-leb, false≢true}
 use Rattle.term_core.specs.Tree.{Tree}
 use Rattle.term_core.specs.Order.{tree_cmp}
 use Rattle.term_core.specs.OrderLaws.{same_from_tree_cmp}
@@ -12,15 +13,17 @@ use Rattle.prolog_write.specs.declared.mode.Mode.TheVariants.{Quoted}
 use Rattle.prolog_read.specs.Clauses.{iso}
 use Rattle.prolog_read.specs.Outcome.{term_read}
 use Rattle.prolog_read.proofs.Exact.{reads_found}
-use Rattle.read_back.specs.Laws.{WhatIsWrittenIsReadAgain}
+use Rattle.prolog_read.specs.Variables.{Names}
+use Rattle.read_back.specs.Laws.{is_hidden, AreHidden, WhatIsWrittenIsReadAgain}
 use Rattle.builtin_table.specs.Lists as lists
 use Rattle.builtin_table.specs.Errors.{one_argument}
 use Rattle.event_core.specs.declared.request.Request.TheVariants as request
-use Rattle.request_text.specs.declared.options.TheConstants.{MAX_CHUNK}
+use Rattle.event_core.specs.declared.limits.TheConstants.{MAX_CHUNK}
 use Rattle.request_text.specs.declared.sent.Sent.{Sent}
 use Rattle.request_text.specs.declared.sent.Sent.TheVariants.{Request as Asks, Abort, Destroy}
 use Rattle.request_text.specs.Shapes.{number_up_to}
-use Rattle.request_text.specs.Requests.{request_of}
+use Rattle.request_text.specs.Requests.{named, request_of}
+use Rattle.request_text.specs.Templates.{is_told, told_before, told_names}
 use Rattle.request_text.specs.Written.{number_term, next_term, chunk_option, goal_with, sent_term, sent_text, sent_mapped, HasChunk, IsChunk, RequestsAreReadAgain}
 
 number_found : (n : ℕ) → 1 ≤ n → n ≤ MAX_CHUNK → number_up_to MAX_CHUNK (number_term n) ≡ Some n
@@ -32,7 +35,7 @@ chunk_named (suc n) h = refl
 
 module _ (f : ℕ → ℕ) (bytes : ℕ) where
   abbrev asked : Tree → Tree → ℕ → Option Sent
-  asked g t c = Some (Asks (request.Ask (record { goal = map_variables f g; template = map_variables f t; chunk = c; bytes = bytes })))
+  asked g t c = Some (Asks (request.Ask (record { goal = map_variables f g; template = map_variables f t; names = []; chunk = c; bytes = bytes })))
 
   -- an ask with these options, where `same` says whether the template is the goal
   ask_with_options : (g t : Tree) (same : Bool) (c : ℕ) → IsChunk c → (same ≡ true → t ≡ g) →
@@ -61,8 +64,30 @@ module _ (f : ℕ → ℕ) (bytes : ℕ) where
   sent_found Abort h = refl
   sent_found Destroy h = refl
 
+-- no name of the writer's is told
+none_told : (ns : Names) → AreHidden ns → told_names ns ≡ []
+unfolding told_before
+none_told [] h = refl
+none_told (p ∷ ps) h =
+    let q = and_parts (is_hidden p.0) (list_all (λ r. is_hidden r.0) ps) h in
+    rw (not_told p.0 q.0) (none_told ps q.1)
+  where
+    not_told : (w : List ℕ) → is_hidden w ≡ true → is_told w ≡ false
+    not_told [] e = cc
+    not_told (c ∷ cs) e = ap not e
+
+unnamed : (f : ℕ → ℕ) (bytes : ℕ) (s : Sent) → named [] (sent_mapped f bytes s) ≡ sent_mapped f bytes s
+unnamed f bytes (Asks (request.Ask a)) = refl
+unnamed f bytes (Asks (request.Next c)) = refl
+unnamed f bytes (Asks request.Stop) = refl
+unnamed f bytes (Asks (request.Respond t)) = refl
+unnamed f bytes Abort = refl
+unnamed f bytes Destroy = refl
+
 pub read_again : WhatIsWrittenIsReadAgain → RequestsAreReadAgain
 read_again law s h sound shallow =
     let r = (law Quoted (sent_term s) refl sound shallow).alone in
     let found : term_read iso (sent_text s) ≡ Ok (numbered (sent_term s), r.names) = reads_found iso (sent_text s) (numbered (sent_term s)) r.names r.reads in
-    rw (found, sent_found (λ n. place_of n (variables (sent_term s))) (length (sent_text s)) s h) refl
+    let f : ℕ → ℕ = λ n. place_of n (variables (sent_term s)) in
+    let bytes : ℕ = length (sent_text s) in
+    rw (found, sent_found f bytes s h, none_told r.names r.hidden) (ap Ok (unnamed f bytes s))

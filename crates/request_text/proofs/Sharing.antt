@@ -17,7 +17,7 @@ use Rattle.prolog_read.specs.Outcome.{ReadAs}
 use Rattle.request_text.specs.Templates.{shared, number_beside, beside}
 
 -- what a function has of the elements from one on, by what it has of those behind it
-one_back : {X Y : Type 0} (F : List X → Y) (xs : List X) (i : ℕ) (x : X) → i < length xs → x ≡ get_or xs (length xs - 1 - i) x → F (drop (length xs - (i + 1)) xs) ≡ F (x ∷ drop (length xs - i) xs)
+pub one_back : {X Y : Type 0} (F : List X → Y) (xs : List X) (i : ℕ) (x : X) → i < length xs → x ≡ get_or xs (length xs - 1 - i) x → F (drop (length xs - (i + 1)) xs) ≡ F (x ∷ drop (length xs - i) xs)
 one_back F xs i x lt is =
     let j = length xs - (i + 1) in
     let at : length xs - 1 - i ≡ j = omega arith in

@@ -1,6 +1,7 @@
 pub mod Creation
 pub mod Kept
 pub mod Laws
+pub mod Limits
 pub mod Lines
 pub mod Options
 pub mod Requests

@@ -1,12 +1,12 @@
 -- Options: a proper list of terms name(Value), each name at most once (after Lager and Wielemaker, TPLP 2014, section 3).
-use Rattle.std.specs.Prelude.{ℕ, Bool, ◌||◌, List, [], ◌∷◌, Option, Some, None, if◌then◌else◌, codes, bytes_eq}
+use Rattle.std.specs.Prelude.{ℕ, Bool, false, ◌||◌, List, [], ◌∷◌, Option, Some, None, if◌then◌else◌, codes, bytes_eq}
 use Rattle.std.specs.List.{list_all, filter_map}
 use Rattle.term_core.specs.Tree.{Tree, compound, no_trees, tree}
 use Rattle.event_core.specs.declared.request.Ask.{Ask}
 use Rattle.event_core.specs.declared.settings.Settings.{Settings}
-use Rattle.event_core.specs.declared.settings.TheConstants.Settings.{DEFAULT}
-use Rattle.event_core.specs.declared.limits.TheConstants.{MAX_LIMIT}
-use Rattle.request_text.specs.declared.options.TheConstants.{MAX_CHUNK}
+use Rattle.event_core.specs.declared.limits.TheConstants.{MAX_CHUNK}
+use Rattle.term_core.specs.declared.app.App.{App}
+use Rattle.request_text.specs.Limits.{greatest_limit, default_settings}
 use Rattle.request_text.specs.declared.options.Given.{Given}
 use Rattle.request_text.specs.declared.options.Given.TheVariants.{Never, Once, Again}
 use Rattle.request_text.specs.Shapes.{is_compound, number_up_to, flag_of, elements}
@@ -64,7 +64,7 @@ ask_of bytes goal ts =
     if list_all is_ask_option ts then
     and_then (term_or goal (given_for (codes "template") ts)) (λ t.
     and_then (number_or 0 MAX_CHUNK (given_for (codes "chunk") ts)) (λ c.
-    Some (record { goal = goal; template = t; chunk = c; bytes = bytes })))
+    Some (record { goal = goal; template = t; names = []; chunk = c; bytes = bytes })))
     else None
 
 abbrev pub ask_with : (bytes : ℕ) → (goal options : Tree) → Option Ask
@@ -75,16 +75,16 @@ ask_with bytes goal options = and_then (elements options) (ask_of bytes goal)
 abbrev pub is_create_option : Tree → Bool
 is_create_option t = (is_compound (codes "chunk") 1 t || is_compound (codes "limit") 1 t) || is_compound (codes "destroy") 1 t
 
--- what isn't given is the default
-abbrev pub settings_of : List Tree → Option Settings
-settings_of ts =
+-- what isn't given is the application's default
+abbrev pub settings_of : App → List Tree → Option Settings
+settings_of app ts =
     if list_all is_create_option ts then
-    and_then (number_or DEFAULT.chunk MAX_CHUNK (given_for (codes "chunk") ts)) (λ c.
-    and_then (number_or DEFAULT.limit MAX_LIMIT (given_for (codes "limit") ts)) (λ n.
-    and_then (flag_or DEFAULT.destroys (given_for (codes "destroy") ts)) (λ d.
-    Some (record { chunk = c; limit = n; destroys = d }))))
+    and_then (number_or (default_settings app).chunk MAX_CHUNK (given_for (codes "chunk") ts)) (λ c.
+    and_then (number_or (default_settings app).limit (greatest_limit app) (given_for (codes "limit") ts)) (λ n.
+    and_then (flag_or (default_settings app).destroys (given_for (codes "destroy") ts)) (λ d.
+    Some (record { chunk = c; limit = n; destroys = d; names = false }))))
     else None
 
--- the settings that a term create(Options) gives
-abbrev pub created : Tree → Option Settings
-created t = and_then (value_of (codes "create") t) (λ options. and_then (elements options) settings_of)
+-- the settings that a term create(Options) gives a pengine of an application
+abbrev pub created : App → Tree → Option Settings
+created app t = and_then (value_of (codes "create") t) (λ options. and_then (elements options) (settings_of app))

@@ -4,8 +4,9 @@ use Rattle.term_core.specs.Tree.{Tree, atom, compound, tree_list}
 use Rattle.event_core.specs.declared.request.Request.TheVariants as request
 use Rattle.request_text.specs.declared.sent.Sent.{Sent}
 use Rattle.request_text.specs.declared.sent.Sent.TheVariants.{Request, Abort, Destroy}
+use Rattle.prolog_read.specs.Variables.{Names}
 use Rattle.request_text.specs.Shapes.{number_up_to}
-use Rattle.request_text.specs.declared.options.TheConstants.{MAX_CHUNK}
+use Rattle.event_core.specs.declared.limits.TheConstants.{MAX_CHUNK}
 use Rattle.request_text.specs.Options.{and_then, ask_with}
 
 abbrev pub atom_request : List ℕ → Option Sent
@@ -16,10 +17,15 @@ atom_request f =
     else if bytes_eq f (codes "destroy") then Some Destroy
     else None
 
+-- an ask with these names, which its answers may carry
+abbrev pub named : Names → Sent → Sent
+named ns (Request (request.Ask a)) = Request (request.Ask (record a { names = ns }))
+named ns s = s
+
 -- The answers to an ask without a template are instances of its goal.
 abbrev pub one_argument_request : ℕ → List ℕ → Tree → Option Sent
 one_argument_request bytes f t =
-    if bytes_eq f (codes "ask") then Some (Request (request.Ask (record { goal = t; template = t; chunk = 0; bytes = bytes })))
+    if bytes_eq f (codes "ask") then Some (Request (request.Ask (record { goal = t; template = t; names = []; chunk = 0; bytes = bytes })))
     else if bytes_eq f (codes "next") then and_then (number_up_to MAX_CHUNK t) (λ n. Some (Request (request.Next (Some n))))
     else if bytes_eq f (codes "respond") then Some (Request (request.Respond t))
     else None

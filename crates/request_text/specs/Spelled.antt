@@ -11,12 +11,12 @@ use Rattle.prolog_read.specs.declared.fault.ReadFault.{ReadFault}
 use Rattle.prolog_read.specs.declared.fault.ReadFault.TheVariants as read
 use Rattle.prolog_read.specs.Outcome.{ReadAs, term_read, clauses_read}
 use Rattle.program.specs.declared.fault.ProgFault.{ProgFault}
-use Rattle.program.specs.Clauses.{Clause}
+use Rattle.program.specs.Loaded.{Loaded}
+use Rattle.term_core.specs.declared.app.App.{App}
 use Rattle.program.specs.Source.{first_fault, clauses_in, program_of}
 use Rattle.lib_text.specs.Clauses.{library_clauses}
-use Rattle.builtin_table.specs.Table.{standard, reserved_of}
+use Rattle.builtin_table.specs.Table.{rows_of_app, reserved_of}
 use Rattle.event_core.specs.declared.settings.Settings.{Settings}
-use Rattle.event_core.specs.declared.settings.TheConstants.Settings.{DEFAULT}
 use Rattle.request_text.specs.declared.fault.RequestFault.{RequestFault}
 use Rattle.request_text.specs.declared.fault.RequestFault.TheVariants.{Read, NotRequest}
 use Rattle.request_text.specs.declared.fault.SpecFault.{SpecFault}
@@ -24,7 +24,10 @@ use Rattle.request_text.specs.declared.fault.SpecFault.TheVariants.{Source, Clau
 use Rattle.request_text.specs.declared.fault.ScriptFault.{ScriptFault}
 use Rattle.request_text.specs.declared.fault.ScriptFault.TheVariants.{Utf8, Spec, Line}
 use Rattle.request_text.specs.declared.sent.Sent.{Sent}
-use Rattle.request_text.specs.Requests.{request_of}
+use Rattle.request_text.specs.Requests.{named, request_of}
+use Rattle.request_text.specs.Templates.{told_names}
+use Rattle.std.specs.Option.{option_map}
+use Rattle.request_text.specs.Limits.{default_settings}
 use Rattle.request_text.specs.Options.{created}
 
 abbrev pub ok_or : {A E : Type 0} → Option A → E → Result A E
@@ -39,7 +42,7 @@ and_then (Err e) f = Err e
 
 -- the request of a text of so many bytes that reads so
 abbrev pub sent_of : ℕ → Result ReadAs ReadFault → Result Sent RequestFault
-sent_of bytes (Ok x) = ok_or (request_of bytes x.0) NotRequest
+sent_of bytes (Ok x) = ok_or (option_map (named (told_names x.1)) (request_of bytes x.0)) NotRequest
 sent_of bytes (Err e) = Err (Read e)
 
 -- the request that a text spells
@@ -126,40 +129,40 @@ pub record Session : Type 0 where
 abbrev pub session_of : Settings → Result (List Sent) ScriptFault → Result Session ScriptFault
 session_of s r = and_then r (λ ss. Ok (record { settings = s; lines = ss }))
 
-abbrev pub settings_at : Result ReadAs ReadFault → Option Settings
-settings_at (Ok x) = created x.0
-settings_at (Err e) = None
+abbrev pub settings_at : App → Result ReadAs ReadFault → Option Settings
+settings_at app (Ok x) = created app x.0
+settings_at app (Err e) = None
 
 -- the lines from the first one on that isn't passed over, which may be create(Options)
-abbrev pub session_from : Option Settings → ℕ → (l : List ℕ) → (ls : List (List ℕ)) → Result Session ScriptFault
-session_from (Some s) n l ls = session_of s (requests_in (n + 1) ls)
-session_from None n l ls = session_of DEFAULT (requests_in n (l ∷ ls))
+abbrev pub session_from : App → Option Settings → ℕ → (l : List ℕ) → (ls : List (List ℕ)) → Result Session ScriptFault
+session_from app (Some s) n l ls = session_of s (requests_in (n + 1) ls)
+session_from app None n l ls = session_of (default_settings app) (requests_in n (l ∷ ls))
 
 -- where the first line has the number n
-unfoldable pub session_in : ℕ → List (List ℕ) → Result Session ScriptFault
-session_in n [] = Ok (record { settings = DEFAULT; lines = [] })
-session_in n (l ∷ ls) = if is_passed l then session_in (n + 1) ls else session_from (settings_at (term_read iso l)) n l ls
+unfoldable pub session_in : App → ℕ → List (List ℕ) → Result Session ScriptFault
+session_in app n [] = Ok (record { settings = default_settings app; lines = [] })
+session_in app n (l ∷ ls) = if is_passed l then session_in app (n + 1) ls else session_from app (settings_at app (term_read iso l)) n l ls
 
 -- ---- the source text
 
-abbrev pub program_checked : Option ProgFault → List Tree → Result (List Clause) SpecFault
-program_checked None ts = Ok (program_of library_clauses (clauses_in true ts))
-program_checked (Some f) ts = Err (ClauseFault f)
+abbrev pub program_checked : App → Option ProgFault → List Tree → Result Loaded SpecFault
+program_checked app None ts = Ok (record { clauses = program_of (library_clauses app) (clauses_in true ts); app = app; declared = [] })
+program_checked app (Some f) ts = Err (ClauseFault f)
 
-abbrev pub program_from : Result (List ReadAs) ReadFault → Result (List Clause) SpecFault
-program_from (Ok xs) =
+abbrev pub program_from : App → Result (List ReadAs) ReadFault → Result Loaded SpecFault
+program_from app (Ok xs) =
     let ts : List Tree = map (λ x. x.0) xs in
-    program_checked (first_fault (reserved_of standard) 1 ts) ts
-program_from (Err e) = Err (Source e)
+    program_checked app (first_fault (reserved_of (rows_of_app app)) 1 ts) ts
+program_from app (Err e) = Err (Source e)
 
--- the program that a source text spells over the library
-abbrev pub program_in : List ℕ → Result (List Clause) SpecFault
-program_in text = program_from (clauses_read iso text)
+-- the program that a source text spells over the library of an application
+abbrev pub program_in : App → List ℕ → Result Loaded SpecFault
+program_in app text = program_from app (clauses_read iso text)
 
 -- ---- the whole script
 
 pub record Script : Type 0 where
-  pub program : List Clause
+  pub program : Loaded
   pub settings : Settings
   pub lines : List Sent
 
@@ -168,12 +171,12 @@ of_spec (Ok a) = Ok a
 of_spec (Err e) = Err (Spec e)
 
 -- The source text is refused before the request lines.
-abbrev pub script_of : Parts → Result Script ScriptFault
-script_of p =
-    and_then (of_spec (program_in p.source)) (λ cs.
-    and_then (session_in 1 (lines p.requests)) (λ s.
-    Ok (record { program = cs; settings = s.settings; lines = s.lines })))
+abbrev pub script_of : App → Parts → Result Script ScriptFault
+script_of app p =
+    and_then (of_spec (program_in app p.source)) (λ l.
+    and_then (session_in app 1 (lines p.requests)) (λ s.
+    Ok (record { program = l; settings = s.settings; lines = s.lines })))
 
 -- what the bytes of a script spell; bytes that aren't UTF-8 are refused behind their longest front that is
-abbrev pub script : List ℕ → Result Script ScriptFault
-script bs = if is_utf8 bs then script_of (parts bs) else Err (Utf8 (utf8_valid_len bs))
+abbrev pub script : App → List ℕ → Result Script ScriptFault
+script app bs = if is_utf8 bs then script_of app (parts bs) else Err (Utf8 (utf8_valid_len bs))

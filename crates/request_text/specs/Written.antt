@@ -12,7 +12,7 @@ use Rattle.builtin_table.specs.Lists.{list_of}
 use Rattle.event_core.specs.declared.request.Ask.{Ask}
 use Rattle.event_core.specs.declared.request.Request.TheVariants as request
 use Rattle.event_core.specs.declared.request.Request.{Request}
-use Rattle.request_text.specs.declared.options.TheConstants.{MAX_CHUNK}
+use Rattle.event_core.specs.declared.limits.TheConstants.{MAX_CHUNK}
 use Rattle.request_text.specs.declared.sent.Sent.{Sent}
 use Rattle.request_text.specs.declared.sent.Sent.TheVariants.{Request as Asks, Abort, Destroy}
 use Rattle.request_text.specs.Spelled.{sent_in}
@@ -63,7 +63,7 @@ sent_text s = text Quoted (sent_term s)
 -- f of each variable's number, and how many bytes the text has
 module _ (f : ℕ → ℕ) (bytes : ℕ) where
   abbrev pub ask_mapped : Ask → Ask
-  ask_mapped a = record { goal = map_variables f a.goal; template = map_variables f a.template; chunk = a.chunk; bytes = bytes }
+  ask_mapped a = record { goal = map_variables f a.goal; template = map_variables f a.template; names = []; chunk = a.chunk; bytes = bytes }
 
   abbrev pub request_mapped : Request → Request
   request_mapped (request.Ask a) = request.Ask (ask_mapped a)
@@ -91,6 +91,7 @@ HasChunk (Asks (request.Next (Some n))) = (1 ≤ n) × (n ≤ MAX_CHUNK)
 HasChunk s = ⊤
 
 -- What is written of what is sent is read as that again, and its text is no longer than what a reader takes: the depth of the written term is at most 1,000.
+-- No names are told, since those of the text's variables are the writer's.
 abbrev pub RequestsAreReadAgain : Type 0
 RequestsAreReadAgain =
     (s : Sent) → HasChunk s → IsSound (sent_term s) → depth (sent_term s) ≤ 1000 →

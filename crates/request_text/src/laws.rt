@@ -18,7 +18,7 @@ pub fn scripts_are_parted()
 /// chunk or reply, its variables numbered from 0 by first occurrence.
 ///
 /// The terms are those of the code, the numbers of answers within their limits, and the written term's depth is at most 1,000, which is what the reader
-/// takes. Instead of the length of the text that was read, the request that is read again has that of the text that was written.
+/// takes. Instead of the length of the text that was read, the request that is read again has that of the text that was written, and no names.
 pub fn requests_are_read_again()
     ensures { RequestsAreReadAgain }
 {

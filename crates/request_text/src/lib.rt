@@ -3,6 +3,7 @@
 
 mod fault;
 mod laws;
+mod limits;
 mod options;
 mod parts;
 mod requests;
@@ -15,6 +16,7 @@ mod written;
 
 pub use fault::{RequestFault, ScriptFault, SpecFault, place_of};
 pub use laws::{lines_keep_their_places, requests_are_read_again, scripts_are_parted};
+pub use limits::{default_settings, greatest_limit};
 pub use requests::read_request;
 pub use script::{Script, read_script};
 pub use sent::Sent;

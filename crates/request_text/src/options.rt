@@ -3,13 +3,11 @@ ghost use Rattle.std.specs.Prelude.{◌≡◌, ◌≤◌, IfOk, IfSome};
 ghost use Rattle.std.specs.List.{list_all};
 ghost use Rattle.request_text.specs.Options.{value_of, given_for, with_value, term_or, number_or, flag_or, is_ask_option, ask_of, ask_with, is_create_option, settings_of, created};
 
+use crate::limits::{default_settings, greatest_limit};
 use crate::shapes::{elements, flag_of, is_compound, number_up_to};
-use event_core::{Ask, MAX_LIMIT, Settings};
+use event_core::{Ask, MAX_CHUNK, Settings};
 use std::alloc::Global;
-use term_core::{Memory, Term};
-
-/// The greatest chunk.
-pub(crate) const MAX_CHUNK: u64 = 1_000;
+use term_core::{App, List, Memory, Term};
 
 /// How often an option is given.
 #[derive(Debug, Drop)]
@@ -117,6 +115,7 @@ fn ask_of(alloc: Global, goal: &Term, options: &[Term], bytes: u64) -> Result<Op
     Ok(Some(Ask {
         goal: goal.copied(alloc)?,
         template,
+        names: List::new(alloc),
         chunk: chunk as u32,
         bytes,
     }))
@@ -152,9 +151,9 @@ fn are_create_options(options: &[Term]) -> bool
     options.iter().all(is_create_option)
 }
 
-/// The settings of a pengine that is made with these options.
-fn settings_of(alloc: Global, options: &[Term]) -> Result<Option<Settings>, Memory>
-    ensures { IfOk result (λ o. o ≡ settings_of options.now) }
+/// The settings of a pengine of an application that is made with these options.
+fn settings_of(alloc: Global, app: App, options: &[Term]) -> Result<Option<Settings>, Memory>
+    ensures { IfOk result (λ o. o ≡ settings_of app options.now) }
 {
     if !are_create_options(options) {
         return Ok(None);
@@ -163,7 +162,8 @@ fn settings_of(alloc: Global, options: &[Term]) -> Result<Option<Settings>, Memo
         chunk,
         limit,
         destroys,
-    } = Settings::DEFAULT;
+        names,
+    } = default_settings(app);
     let Some(chunk) = number_or(
         u64::from(chunk),
         MAX_CHUNK,
@@ -171,7 +171,11 @@ fn settings_of(alloc: Global, options: &[Term]) -> Result<Option<Settings>, Memo
     ) else {
         return Ok(None);
     };
-    let Some(limit) = number_or(limit, MAX_LIMIT, &given_for(alloc, options, "limit")?) else {
+    let Some(limit) = number_or(
+        limit,
+        greatest_limit(app),
+        &given_for(alloc, options, "limit")?,
+    ) else {
         return Ok(None);
     };
     let Some(destroys) = flag_or(destroys, &given_for(alloc, options, "destroy")?) else {
@@ -181,12 +185,13 @@ fn settings_of(alloc: Global, options: &[Term]) -> Result<Option<Settings>, Memo
         chunk: chunk as u32,
         limit,
         destroys,
+        names,
     }))
 }
 
-/// The settings that a term `create(Options)` gives.
-pub(crate) fn created(alloc: Global, term: &Term) -> Result<Option<Settings>, Memory>
-    ensures { IfOk result (λ o. o ≡ created term.now) }
+/// The settings that a term `create(Options)` gives a pengine of an application.
+pub(crate) fn created(alloc: Global, app: App, term: &Term) -> Result<Option<Settings>, Memory>
+    ensures { IfOk result (λ o. o ≡ created app term.now) }
 {
     let Some(options) = value_of(alloc, term, "create")? else {
         return Ok(None);
@@ -194,6 +199,6 @@ pub(crate) fn created(alloc: Global, term: &Term) -> Result<Option<Settings>, Me
     let Some(options) = elements(alloc, &options, 3)? else {
         return Ok(None);
     };
-    let settings = settings_of(alloc, &options)?;
+    let settings = settings_of(alloc, app, &options)?;
     Ok(settings)
 }

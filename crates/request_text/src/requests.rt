@@ -1,18 +1,19 @@
 // The request of a term, and of a text.
 ghost use Rattle.std.specs.Prelude.{◌≡◌, ◌≢◌, Ok, Err, IfOk, IfErr};
 ghost use Rattle.request_text.specs.declared.fault.RequestFault.TheVariants as fault;
-ghost use Rattle.request_text.specs.Requests.{atom_request, one_argument_request, two_argument_request, compound_request, request_of};
+ghost use Rattle.request_text.specs.Requests.{atom_request, one_argument_request, two_argument_request, compound_request, request_of, named};
 ghost use Rattle.request_text.specs.Spelled.{sent_in};
 
 use crate::fault::RequestFault;
-use crate::options::{MAX_CHUNK, ask_with};
+use crate::options::ask_with;
 use crate::sent::Sent;
 use crate::shapes::number_up_to;
-use event_core::{Ask, Request};
+use crate::template::told_names;
+use event_core::{Ask, MAX_CHUNK, Request};
 use op_table::Ops;
 use prolog_read::{ReadFault, read_term};
 use std::alloc::Global;
-use term_core::{Memory, Node, Term};
+use term_core::{List, Memory, Name, Node, Term};
 
 fn atom_request(name: &str) -> Option<Sent>
     ensures { result ≡ atom_request name.now }
@@ -42,6 +43,7 @@ fn one_argument_request(
         let ask = Ask {
             goal: argument.copied(alloc)?,
             template: argument.copied(alloc)?,
+            names: List::new(alloc),
             chunk: 0,
             bytes,
         };
@@ -107,10 +109,20 @@ pub(crate) fn request_of(alloc: Global, term: &Term, bytes: u64) -> Result<Optio
     }
 }
 
+/// An ask with these names, which its answers may carry; of any other request nothing is changed.
+fn named(names: List<(Name, u64)>, sent: Sent) -> Sent
+    ensures { result ≡ named names sent }
+{
+    match sent {
+        Sent::Request(Request::Ask(ask)) => Sent::Request(Request::Ask(Ask { names, ..ask })),
+        other => other,
+    }
+}
+
 /// Reads a request: `ask(Goal)` or `ask(Goal,Options)` with `template(Term)` and `chunk(N)` among the options,
 /// `next` or `next(N)`, `stop`, `respond(Term)`, `abort` or `destroy`, with an end or none. An N is from 1 to 1,000, and no
 /// option stands twice. Where an ask names no template its goal is the template, and where it names no chunk its chunk
-/// is 0.
+/// is 0. The names of an ask are those of the text's variables that don't begin with `_`, each once and in byte order.
 ///
 /// `Read` is the fault of a text that isn't one term, and `NotRequest` comes where the term is none of these.
 pub fn read_request(alloc: Global, text: &str) -> Result<Sent, RequestFault>
@@ -123,8 +135,9 @@ pub fn read_request(alloc: Global, text: &str) -> Result<Sent, RequestFault>
         Err(ReadFault::Memory) => return Err(RequestFault::Memory),
         Err(fault) => return Err(RequestFault::Read(fault)),
     };
+    let names = told_names(alloc, reading.names.as_slice())?;
     match request_of(alloc, &reading.term, text.len() as u64)? {
-        Some(sent) => Ok(sent),
+        Some(sent) => Ok(named(names, sent)),
         None => Err(RequestFault::NotRequest),
     }
 }

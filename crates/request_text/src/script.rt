@@ -3,31 +3,32 @@ ghost use Rattle.std.specs.Prelude.{◌≡◌, ◌≢◌, ◌≤◌, ◌+◌, Ok
 ghost use Rattle.std.specs.Str.Lines.{lines};
 ghost use Rattle.prolog_read.specs.Clauses.{iso};
 ghost use Rattle.prolog_read.specs.Outcome.{term_read};
+ghost use Rattle.sandbox_walk.specs.Keeping.{KeepsSandbox};
 ghost use Rattle.request_text.specs.declared.fault.ScriptFault.TheVariants as script_fault;
 ghost use Rattle.request_text.specs.Spelled.{is_passed, line_term, request_at, requests_in, session_of, session_in, settings_at, script};
 ghost use Rattle.request_text.specs.Kept.{script_read};
 
 use crate::fault::{ScriptFault, place_of};
+use crate::limits::default_settings;
 use crate::options::created;
 use crate::parts::parts;
 use crate::requests::request_of;
 use crate::sent::Sent;
 use crate::spec::program_in;
-use event_core::Settings;
+use event_core::{Settings, Spec};
 use lib_text::Library;
 use op_table::Ops;
-use program::Program;
 use prolog_read::{ReadFault, read_term};
 use std::alloc::{AllocError, Global};
-use term_core::{List, Memory, Term};
+use std::sync::Arc;
+use term_core::{App, List, Memory, Term};
 
 /// A script (Lager and Wielemaker, TPLP 2014): one pengine, and what is sent to it.
 #[derive(Debug, Drop)]
 pub struct Script {
-    /// The program that the source text spells over the library.
-    pub program: Program,
-    /// The settings that the line `create(Options)` gives, or the default ones.
-    pub settings: Settings,
+    /// What the pengine is made with: the program that the source text spells over the library, no query, and the settings that
+    /// the line `create(Options)` gives, or the default ones.
+    pub spec: Spec,
     /// What the request lines send, in order.
     pub lines: List<Sent>,
 }
@@ -99,21 +100,21 @@ fn requests_from(
 }
 
 /// The settings that a line gives, if it is `create(Options)`.
-fn settings_at(alloc: Global, ops: &Ops, line: &str) -> Result<Option<Settings>, Memory>
+fn settings_at(alloc: Global, app: App, ops: &Ops, line: &str) -> Result<Option<Settings>, Memory>
     requires { ops.now ≡ iso }
-    ensures { IfOk result (λ o. o ≡ settings_at (term_read iso line.now)) }
+    ensures { IfOk result (λ o. o ≡ settings_at app (term_read iso line.now)) }
 {
     match read_term(alloc, line, ops) {
-        Ok(reading) => created(alloc, &reading.term),
+        Ok(reading) => created(alloc, app, &reading.term),
         Err(ReadFault::Memory) => Err(Memory),
         Err(_) => Ok(None),
     }
 }
 
 /// The settings of the pengine, and how many lines stand before those of its requests.
-fn opening(alloc: Global, ops: &Ops, lines: &[&str]) -> Result<(Settings, usize), Memory>
+fn opening(alloc: Global, app: App, ops: &Ops, lines: &[&str]) -> Result<(Settings, usize), Memory>
     requires { ops.now ≡ iso }
-    ensures session { IfOk result (λ o. session_in 1 (map (λ l. l.now) lines.now)
+    ensures session { IfOk result (λ o. session_in app 1 (map (λ l. l.now) lines.now)
         ≡ session_of o.0 (requests_in (o.1 + 1) (drop o.1 (map (λ l. l.now) lines.now)))) }
     ensures within { IfOk result (λ o. o.1 ≤ length lines.now) }
 {
@@ -122,12 +123,12 @@ fn opening(alloc: Global, ops: &Ops, lines: &[&str]) -> Result<(Settings, usize)
         if is_passed(line) {
             continue;
         }
-        return match settings_at(alloc, ops, line)? {
+        return match settings_at(alloc, app, ops, line)? {
             Some(settings) => Ok((settings, index + 1)),
-            None => Ok((Settings::DEFAULT, index)),
+            None => Ok((default_settings(app), index)),
         };
     }
-    Ok((Settings::DEFAULT, lines.len()))
+    Ok((default_settings(app), lines.len()))
 }
 
 /// A text's lines, without their line ends.
@@ -138,13 +139,13 @@ fn lines_of(alloc: Global, text: &str) -> Result<Vec<&str>, AllocError>
 }
 
 /// The settings of the pengine, and what request lines send to it.
-fn session_in(alloc: Global, text: &str) -> Result<(Settings, List<Sent>), ScriptFault>
-    ensures session { IfOk result (λ s. session_in 1 (lines text.now) ≡ Ok (record { settings = s.0; lines = s.1 })) }
-    ensures refused { IfErr result (λ e. e ≢ script_fault.Memory → session_in 1 (lines text.now) ≡ Err e) }
+fn session_in(alloc: Global, app: App, text: &str) -> Result<(Settings, List<Sent>), ScriptFault>
+    ensures session { IfOk result (λ s. session_in app 1 (lines text.now) ≡ Ok (record { settings = s.0; lines = s.1 })) }
+    ensures refused { IfErr result (λ e. e ≢ script_fault.Memory → session_in app 1 (lines text.now) ≡ Err e) }
 {
     let ops = Ops::iso(alloc)?;
     let lines = lines_of(alloc, text)?;
-    let (settings, first) = opening(alloc, &ops, &lines)?;
+    let (settings, first) = opening(alloc, app, &ops, &lines)?;
     let requests = requests_from(alloc, &ops, &lines, first)?;
     Ok((settings, requests))
 }
@@ -153,14 +154,15 @@ fn session_in(alloc: Global, text: &str) -> Result<(Settings, List<Sent>), Scrip
 /// a line feed or a carriage return and a line feed.
 ///
 /// Request lines that are empty or begin with `%` are passed over. The first of the others may be `create(Options)`, with a
-/// list of `chunk(N)`, N from 1 to 1,000, `limit(N)`, N from 1 to [`MAX_LIMIT`](event_core::MAX_LIMIT), and
+/// list of `chunk(N)`, N from 1 to 1,000, `limit(N)`, N from 1 to the [`greatest_limit`](crate::greatest_limit) of the library's application, and
 /// `destroy(true)` or `destroy(false)`, each at most once. All others are requests as [`read_request`](crate::read_request) reads them.
 ///
 /// Bytes that aren't UTF-8 are refused first (`Utf8`), then a source text that can't be read or has a clause that is
 /// refused (`Spec`), with places and numbers from its start, then the first request line that is refused (`Line`).
 pub fn read_script(alloc: Global, library: &Library, bytes: &[u8]) -> Result<Script, ScriptFault>
-    ensures script { IfOk result (λ s. script bytes.now ≡ Ok (script_read s)) }
-    ensures refused { IfErr result (λ e. e ≢ script_fault.Memory → script bytes.now ≡ Err e) }
+    ensures script { IfOk result (λ s. script library.now.app bytes.now ≡ Ok (script_read s)) }
+    ensures keeps { IfOk result (λ s. KeepsSandbox s.spec.program.value) }
+    ensures refused { IfErr result (λ e. e ≢ script_fault.Memory → script library.now.app bytes.now ≡ Err e) }
 {
     let text = match str::from_utf8(bytes) {
         Ok(text) => text,
@@ -172,10 +174,12 @@ pub fn read_script(alloc: Global, library: &Library, bytes: &[u8]) -> Result<Scr
     };
     let (source, requests) = parts(text);
     let program = program_in(alloc, library, source)?;
-    let (settings, lines) = session_in(alloc, requests)?;
-    Ok(Script {
-        program,
+    let (settings, lines) = session_in(alloc, library.app(), requests)?;
+    let spec = Spec {
+        program: Arc::new(alloc, program)?,
+        ask: None,
         settings,
-        lines,
-    })
+        bytes: source.len() as u64,
+    };
+    Ok(Script { spec, lines })
 }

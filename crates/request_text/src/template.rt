@@ -5,11 +5,12 @@ ghost use Rattle.std.specs.BTreeMap.{get, get_by_text};
 ghost use Rattle.term_core.specs.Nodes.{map_node};
 ghost use Rattle.prolog_read.specs.Variables.{lookup};
 ghost use Rattle.prolog_read.specs.Outcome.{read_as};
-ghost use Rattle.request_text.specs.Templates.{shared, beside};
+ghost use Rattle.request_text.specs.Kept.{in_order};
+ghost use Rattle.request_text.specs.Templates.{shared, beside, is_told, told_before, told_names, names_behind, names_beside};
 
 use std::alloc::Global;
 use std::collections::BTreeMap;
-use term_core::{Memory, Name, Node, ReadTerm, Term};
+use term_core::{List, Memory, Name, Node, ReadTerm, Term};
 
 /// The number of each name.
 fn index_of(alloc: Global, names: &[(Name, u64)]) -> Result<BTreeMap<String, u64>, Memory>
@@ -81,4 +82,67 @@ pub(crate) fn beside(alloc: Global, goal: &ReadTerm, template: &ReadTerm) -> Res
     let free = goal.term.first_free()?;
     let nodes = nodes_beside(alloc, &shared, free, template.term.nodes())?;
     Term::first_of(alloc, &nodes)
+}
+
+/// Whether the name of a variable is told: it doesn't begin with `_`.
+fn is_told(name: &str) -> bool
+    ensures { result ≡ is_told name.now }
+{
+    match name.as_bytes().first() {
+        Some(byte) => *byte != b'_',
+        None => true,
+    }
+}
+
+/// Those of the names that are told, put before others; the variables of these names are counted from `free`.
+fn told_before<'a>(
+    names: &'a [(Name, u64)],
+    free: u64,
+    others: BTreeMap<&'a str, u64>,
+) -> Result<BTreeMap<&'a str, u64>, Memory>
+    ensures { IfOk result (λ m. in_order m ≡ told_before (names_behind free names.now) (in_order others.entry)) }
+{
+    let mut told = others;
+    for i in 0..names.len() {
+        let (name, number) = &names[names.len() - 1 - i];
+        if is_told(name.as_str()) {
+            let number = free.checked_add(*number).ok_or(Memory)?;
+            told.insert(name.as_str(), number)?;
+        }
+    }
+    Ok(told)
+}
+
+/// The names, each with its variable, in byte order.
+fn listed(alloc: Global, told: &BTreeMap<&str, u64>) -> Result<List<(Name, u64)>, Memory>
+    ensures { IfOk result (λ ns. ns ≡ in_order told.now) }
+{
+    let mut names = List::new(alloc);
+    for (name, number) in told {
+        names.push((Name::new(alloc, name)?, *number))?;
+    }
+    Ok(names)
+}
+
+/// Those of the names that are told, each with its variable, in byte order.
+pub(crate) fn told_names(alloc: Global, names: &[(Name, u64)]) -> Result<List<(Name, u64)>, Memory>
+    ensures { IfOk result (λ ns. ns ≡ told_names names.now) }
+{
+    let told = told_before(names, 0, BTreeMap::new(alloc))?;
+    listed(alloc, &told)
+}
+
+/// The names that answers to a goal carry whose template is a text of its own: those of the goal, and those of its template
+/// with their variables beside the goal. A name that both have is the goal's.
+pub(crate) fn names_beside(
+    alloc: Global,
+    goal: &ReadTerm,
+    template: &ReadTerm,
+) -> Result<List<(Name, u64)>, Memory>
+    ensures { IfOk result (λ ns. ns ≡ names_beside (read_as goal.now) (read_as template.now)) }
+{
+    let free = goal.term.first_free()?;
+    let behind = told_before(template.names.as_slice(), free, BTreeMap::new(alloc))?;
+    let told = told_before(goal.names.as_slice(), 0, behind)?;
+    listed(alloc, &told)
 }

@@ -1,15 +1,16 @@
 // Blocks of lines, which end at an empty line: a name; script lines behind `|`, or `:` where the line has no
-// end; calls behind `<`; and what is to be printed behind `>`.
+// end; `+ names` where answers carry names; calls behind `<`; and what is to be printed behind `>`.
 use crate::row::plain;
 use crate::scripts::transcript;
 use crate::stop::Stop;
 use lib_text::Library;
 use std::alloc::Global;
 
-/// A session: its script, then the calls of it, and what is to be printed.
+/// A session: its script and whether its answers carry names, then the calls of it, and what is to be printed.
 #[derive(Drop)]
 pub(crate) struct Block {
     script: String,
+    names: bool,
     calls: String,
     wanted: String,
 }
@@ -26,6 +27,7 @@ impl Block {
     pub(crate) fn new(alloc: Global) -> Block {
         Block {
             script: String::new(alloc),
+            names: false,
             calls: String::new(alloc),
             wanted: String::new(alloc),
         }
@@ -37,6 +39,10 @@ impl Block {
         match mark {
             "|" => push_line(alloc, &mut self.script, field),
             ":" => Ok(self.script.push_str(&plain(alloc, field)?)?),
+            "+" => {
+                self.names = field == "names";
+                Ok(())
+            }
             "<" => push_line(alloc, &mut self.calls, field),
             ">" => push_line(alloc, &mut self.wanted, field),
             _ => Ok(()),
@@ -58,7 +64,8 @@ impl Block {
         alloc: Global,
         library: &Library,
     ) -> Result<Option<String>, Stop> {
-        let found = transcript(alloc, library, self.script.as_bytes(), &self.calls)?;
+        let script = self.script.as_bytes();
+        let found = transcript(alloc, library, script, self.names, &self.calls)?;
         if found.as_str() == self.wanted.as_str() {
             return Ok(None);
         }

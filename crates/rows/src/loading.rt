@@ -1,18 +1,19 @@
 // What programs and sessions are made of. Only this file calls what loads them.
 ghost use Rattle.std.specs.Prelude.{IfOk};
 ghost use Rattle.program.specs.Source.{AreNumbered};
+ghost use Rattle.sandbox_walk.specs.Keeping.{KeepsSandbox};
 
 use crate::stop::Stop;
 use builtin_table::Table;
-use event_core::{Settings, Spec};
-use lib_text::{Library, source};
+use event_core::Spec;
+use lib_text::Library;
 use program::Program;
 use prolog_read::{ReadFault, read_clauses};
 use request_text::{Options, Script, ScriptFault, SpecFault, read_script, read_spec};
 use session::Session;
 use std::alloc::Global;
 use std::sync::Arc;
-use term_core::{Pi, ReadTerm};
+use term_core::{App, Pi, ReadTerm};
 
 fn clauses(alloc: Global, text: &str) -> Result<Vec<ReadTerm>, Stop>
     ensures { IfOk result (λ v. AreNumbered v.items) }
@@ -33,34 +34,33 @@ pub(crate) fn load(
 ) -> Result<Program, Stop> {
     let library = clauses(alloc, library)?;
     let own = clauses(alloc, own)?;
-    Ok(Program::from_terms(alloc, own, &library, reserved)?)
+    Ok(Program::from_terms(alloc, own, &library, reserved, App::Sandbox)?)
 }
 
-/// The same where what is built in may not be defined; a library named `standard` is that of this repository.
-pub(crate) fn load_standard(alloc: Global, library: &str, own: &str) -> Result<Arc<Program>, Stop> {
-    let library = match library {
-        "standard" => source(),
-        text => text,
+/// The program of a source text over an application's library, or over a text where the field names no application, and where
+/// what is built in may not be defined.
+pub(crate) fn load_over(alloc: Global, library: &str, own: &str) -> Result<Arc<Program>, Stop> {
+    let program = match App::named(library) {
+        Some(app) => Library::read(alloc, app)?.load(alloc, clauses(alloc, own)?)?,
+        None => {
+            let table = Table::of(alloc, App::Sandbox)?;
+            load(alloc, table.reserved(), library, own)?
+        }
     };
-    let table = Table::standard(alloc)?;
-    Ok(Arc::new(alloc, load(alloc, table.reserved(), library, own)?)?)
+    Ok(Arc::new(alloc, program)?)
 }
 
 /// What a script spells over the library.
-pub(crate) fn script(alloc: Global, library: &Library, text: &[u8]) -> Result<Script, ScriptFault> {
+pub(crate) fn script(alloc: Global, library: &Library, text: &[u8]) -> Result<Script, ScriptFault>
+    ensures { IfOk result (λ s. KeepsSandbox s.spec.program.value) }
+{
     read_script(alloc, library, text)
 }
 
-/// A session over a program.
-pub(crate) fn begun(alloc: Global, program: Program, settings: Settings) -> Result<Session, Stop> {
-    let spec = Spec {
-        program: Arc::new(alloc, program)?,
-        ask: None,
-        chunk: settings.chunk,
-        limit: settings.limit,
-        destroy: settings.destroys,
-        bytes: 0,
-    };
+/// A session of this spec.
+pub(crate) fn begun(alloc: Global, spec: Spec) -> Result<Session, Stop>
+    requires { KeepsSandbox spec.program.value }
+{
     Ok(Session::create(alloc, spec)?)
 }
 

@@ -26,6 +26,7 @@ use std::fs;
 use std::rt::Files;
 use stop::Stop;
 use table::{TABLES, differing};
+use term_core::App;
 
 /// How many rows there were, and how many of them differed.
 #[derive(Clone, Copy, Drop)]
@@ -102,7 +103,7 @@ fn run_tables<R: Files + Print + AllocGlobal>(
 }
 
 fn main(rt: HostRuntime) -> Result<(), Stop> {
-    let library = Library::read(rt.alloc())?;
+    let library = Library::read(rt.alloc(), App::Sandbox)?;
     let mut count = Count { rows: 0, differ: 0 };
     run_tables(&rt, &library, &mut count)?;
     let sessions = fs::read_to_string(&rt, "sessions")?;

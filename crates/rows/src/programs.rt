@@ -1,6 +1,6 @@
 // Tables of programs: which sources are accepted, which goals may be asked of them.
 use crate::faults::clause_fault;
-use crate::loading::{load, load_standard};
+use crate::loading::{load, load_over};
 use crate::row::Row;
 use crate::stop::Stop;
 use crate::terms::{indicator, shown, term};
@@ -10,7 +10,7 @@ use library_check::keeps_sandbox;
 use prolog_write::Mode;
 use sandbox_walk::check;
 use std::alloc::Global;
-use term_core::Pi;
+use term_core::{App, Pi};
 
 /// A row of the table: its class and its goal positions, each with how many arguments are added.
 fn builtin_text(alloc: Global, row: Builtin) -> Result<String, Stop> {
@@ -23,10 +23,11 @@ fn builtin_text(alloc: Global, row: Builtin) -> Result<String, Stop> {
     Ok(text)
 }
 
-/// A predicate's row in the table of built-in predicates, and whether a program may define it.
-pub(crate) fn builtin_of(alloc: Global, field: &str) -> Result<String, Stop> {
-    let table = Table::standard(alloc)?;
-    let pi = indicator(alloc, field)?;
+/// A predicate's row in an application's table of built-in predicates, and whether a program may define it.
+pub(crate) fn builtin_of(alloc: Global, row: &Row) -> Result<String, Stop> {
+    let app = App::named(row.field(0)).ok_or(Stop::Malformed)?;
+    let table = Table::of(alloc, app)?;
+    let pi = indicator(alloc, row.field(1))?;
     let row = match table.row(&pi) {
         Some(row) => builtin_text(alloc, row)?,
         None => String::from_str(alloc, "none")?,
@@ -59,7 +60,7 @@ pub(crate) fn program_of(alloc: Global, row: &Row) -> Result<String, Stop> {
 
 /// How many variables each clause of a predicate has.
 pub(crate) fn predicate_of(alloc: Global, row: &Row) -> Result<String, Stop> {
-    let program = load_standard(alloc, row.field(0), row.field(1))?;
+    let program = load_over(alloc, row.field(0), row.field(1))?;
     let mut text = String::new(alloc);
     for clause in program.clauses(&indicator(alloc, row.field(2))?) {
         let space = if text.is_empty() { "" } else { " " };
@@ -70,7 +71,7 @@ pub(crate) fn predicate_of(alloc: Global, row: &Row) -> Result<String, Stop> {
 
 /// Whether a goal may be asked of a program.
 pub(crate) fn verdict_of(alloc: Global, row: &Row) -> Result<String, Stop> {
-    let program = load_standard(alloc, row.field(0), row.field(1))?;
+    let program = load_over(alloc, row.field(0), row.field(1))?;
     match check(alloc, &program, &term(alloc, row.field(2))?) {
         Ok(_) => Ok(String::from_str(alloc, "safe")?),
         Err(refused) => shown(alloc, &refused.formal(alloc)?, Mode::Quoted),

@@ -55,6 +55,7 @@ pub(crate) fn spec_of(alloc: Global, library: &Library, row: &Row) -> Result<Str
         chunk: 2,
         limit: 9,
         destroy: false,
+        names: false,
     };
     match spec(alloc, library, &options) {
         Ok(spec) => query_text(alloc, spec.ask),

@@ -10,6 +10,7 @@ use lib_text::Library;
 use request_text::{Script, Sent};
 use session::{Pulled, SendFault, Session};
 use std::alloc::Global;
+use term_core::App;
 
 /// A session under way, and what was printed; a session that was destroyed is none.
 #[derive(Drop)]
@@ -104,23 +105,21 @@ fn refused(fault: SendFault) -> Stop {
     }
 }
 
-/// What a script prints, and then calls of its session, one a line.
+/// What a script prints whose answers carry names or don't, and then calls of its session, one a line.
 pub(crate) fn transcript(
     alloc: Global,
     library: &Library,
     text: &[u8],
+    names: bool,
     calls: &str,
 ) -> Result<String, Stop> {
-    let Script {
-        program,
-        settings,
-        lines,
-    } = match script(alloc, library, text) {
+    let Script { mut spec, lines } = match script(alloc, library, text) {
         Ok(script) => script,
         Err(fault) => return script_fault(alloc, &fault),
     };
+    spec.settings.names = names;
     let mut run = Run {
-        session: Some(begun(alloc, program, settings)?),
+        session: Some(begun(alloc, spec)?),
         printed: String::from_str(alloc, "create\n")?,
     };
     for sent in lines.into_vec() {
@@ -140,7 +139,8 @@ pub(crate) fn script_of(alloc: Global, library: &Library, text: &str) -> Result<
                 chunk,
                 limit,
                 destroys,
-            } = script.settings;
+                names: _,
+            } = script.spec.settings;
             let lines = script.lines.len();
             Ok(format!(in alloc;
                 "chunk {chunk}, limit {limit}, destroy {destroys}, {lines} lines"
@@ -150,17 +150,28 @@ pub(crate) fn script_of(alloc: Global, library: &Library, text: &str) -> Result<
     }
 }
 
-/// The line of a goal's answers over the library, 50 at a time, by a template.
-pub(crate) fn answers_of(alloc: Global, library: &Library, row: &Row) -> Result<String, Stop> {
-    let goal = row.field(0);
-    let template = row.field(1);
-    let text = format!(in alloc; "---\nask({goal},[template({template}),chunk(50)])")?;
-    let lines = transcript(alloc, library, text.as_bytes(), "")?;
+/// The line of a goal's answers over a source and a library, 50 at a time, by a template.
+pub(crate) fn answers_of(
+    alloc: Global,
+    library: &Library,
+    source: &str,
+    goal: &str,
+    template: &str,
+) -> Result<String, Stop> {
+    let text = format!(in alloc; "{source}\n---\nask({goal},[template({template}),chunk(50)])")?;
+    let lines = transcript(alloc, library, text.as_bytes(), false, "")?;
     let Some(behind) = lines.strip_prefix("create\n") else {
         return Ok(lines);
     };
     let line = behind.strip_suffix("\ndestroy\n").ok_or(Stop::Malformed)?;
     Ok(String::from_str(alloc, line)?)
+}
+
+/// The same over the library of an application.
+pub(crate) fn application_of(alloc: Global, row: &Row) -> Result<String, Stop> {
+    let app = App::named(row.field(0)).ok_or(Stop::Malformed)?;
+    let library = Library::read(alloc, app)?;
+    answers_of(alloc, &library, row.field(1), row.field(2), row.field(3))
 }
 
 /// What a turn of a query does over a source and the library, and the query's events up to its rest.
@@ -169,7 +180,7 @@ pub(crate) fn steps_of(alloc: Global, library: &Library, row: &Row) -> Result<St
     let goal = row.field(1);
     let text = format!(in alloc; "{source}\n---\ncreate([destroy(false)])\n")?;
     let calls = format!(in alloc; "send ask(({goal}))\nrun 10000\nrest")?;
-    let lines = transcript(alloc, library, text.as_bytes(), &calls)?;
+    let lines = transcript(alloc, library, text.as_bytes(), false, &calls)?;
     match lines.strip_prefix("create\nsent\nquery 1: ") {
         Some(behind) => Ok(String::from_str(alloc, behind.trim_end())?),
         None => Ok(lines),

@@ -3,18 +3,19 @@ use crate::cells::{bag_of, measures_of, primitive_of, stored_of, unified_of, val
 use crate::programs::{builtin_of, library_of, predicate_of, program_of, verdict_of};
 use crate::requests::{request_of, spec_of};
 use crate::row::Row;
-use crate::scripts::{answers_of, script_of, steps_of};
+use crate::scripts::{answers_of, application_of, script_of, steps_of};
 use crate::stop::Stop;
 use crate::texts::{atom_of, clauses_of, operators_of, term_of, tokens_of, written_of};
 use lib_text::Library;
 use std::alloc::Global;
 
 /// The names of the tables, and how many fields of a row are given; what follows is to come of them.
-pub(crate) const TABLES: [(&str, u32); 22] = [
+pub(crate) const TABLES: [(&str, u32); 23] = [
     ("answers", 2),
+    ("applications", 4),
     ("atoms", 1),
     ("bags", 2),
-    ("builtins", 1),
+    ("builtins", 2),
     ("clauses", 1),
     ("libraries", 3),
     ("measures", 1),
@@ -39,10 +40,11 @@ pub(crate) const TABLES: [(&str, u32); 22] = [
 fn outcome(alloc: Global, library: &Library, table: &str, row: &Row) -> Result<String, Stop> {
     let first = row.field(0);
     match table {
-        "answers" => answers_of(alloc, library, row),
+        "answers" => answers_of(alloc, library, "", first, row.field(1)),
+        "applications" => application_of(alloc, row),
         "atoms" => atom_of(alloc, first),
         "bags" => bag_of(alloc, row),
-        "builtins" => builtin_of(alloc, first),
+        "builtins" => builtin_of(alloc, row),
         "clauses" => clauses_of(alloc, first),
         "libraries" => library_of(alloc, row),
         "measures" => measures_of(alloc, first),

@@ -6,20 +6,18 @@ use Rattle.std.proofs.lemmas.Bool.Decides.{nat_tests}
 use Rattle.std.proofs.lemmas.List.{length-append}
 use Rattle.term_core.specs.declared.pi.Pi.{Pi}
 use Rattle.term_core.specs.Tree.{Tree, variable, integer, atom, compound, Trees, no_trees, tree, tree_list, trees_of, arity}
-use Rattle.term_core.specs.Flat.{trees_of-tree_list}
 use Rattle.term_core.specs.Parts.{arguments_of}
-use Rattle.term_core.specs.Variables.{renamed, map_variables, map_all_variables, numbered}
+use Rattle.term_core.specs.Variables.{renamed, map_all_variables, numbered}
 use Rattle.term_core.specs.Substitution.{substituted, all_substituted, value_of, apply}
 use Rattle.term_core.specs.Unifier.{mgu}
-use Rattle.term_core.proofs.Substituting.{substituted-substituted}
 use Rattle.builtin_table.specs.Errors.{one_argument, two_arguments, representation_error}
-use Rattle.builtin_table.specs.Outside.{reaches_outside}
 use Rattle.builtin_table.specs.Primitives.{Offer, Outcome, Offers, Ball, Unknown}
 use Rattle.builtin_table.specs.Solutions.{behind_carets, behind_caret, may_be_list, findall_offers, bagof_offers, setof_offers, witness, witnessed, copies, after_copies}
 use Rattle.program.specs.Bodies.{is_body}
 use Rattle.program.specs.Clauses.{Clause, clauses_of}
-use Rattle.solve_model.specs.Goals.{Row, Succeeds, Fails, Cuts, Both, Either, IfElse, Test, Differ, Call, Catch, Throw, Output, Input, FindAll, BagOf, SetOf, Predicate, row_named, atom_rows, one_rows, two_rows, three_rows, row_of, row_of_atom, row_of_one, row_of_two, row_of_three, row_of_arguments, row_of_compound, is_call, arrow, disjunction, counterexample, true_goal, fail_goal, Ready, Runs, Throws, ready, ready_compound, with_arguments, not_callable, control_error, unknown_predicate, indicator as pi_of}
-use Rattle.solve_model.specs.Run.{World, Bindings, Item, Goal, Commit, ExitCatch, End, Failed, Cut, Thrown, Waits, Spent, Outside, Place, Used, Ran, Runner, Branch, ends, marked, after, at_failed, at_cut, at_condition, at_catch, cut_to, in_order, Mark, Told, Asked, undefined, one_reply, if_replied, reply_offer, prompted, without_answers, solutions, at_gathered, gathered, alone, collected, found_all, all_grouped, throws, if_ready, deeper, at_subst, body_branch, entered, offer_branch, offered, performed, called, locally, either_of, branched, differs, recovered_by, recovered, caught, thrown, goal_step, item_step, some_left, one_more, taken, run, query, start, unused}
+use Rattle.solve_model.specs.Goals.{Row, Succeeds, Fails, Cuts, Both, Either, IfElse, Test, Differ, Call, Catch, Throw, Output, Input, FindAll, BagOf, SetOf, Predicate, row_named, atom_rows, one_rows, two_rows, three_rows, row_of, row_of_atom, row_of_one, row_of_two, row_of_three, row_of_arguments, row_of_compound, is_call, arrow, disjunction, counterexample, true_goal, fail_goal, Ready, Runs, Throws, ready, ready_compound, with_arguments, not_callable, control_error, indicator as pi_of, indicator_of as goal_pi, settled, talks}
+use Rattle.solve_model.specs.Run.{World, Bindings, Item, Goal, Commit, ExitCatch, End, Failed, Cut, Thrown, Waits, Spent, Outside, Place, Used, Ran, Runner, Branch, ends, marked, after, at_failed, at_cut, at_condition, at_catch, cut_to, in_order, Mark, Asked, undefined, one_reply, if_replied, reply_offer, prompted, without_answers, solutions, at_gathered, gathered, alone, collected, found_all, all_grouped, if_ready, body_branch, entered, offer_branch, offered, performed, called, locally, branched, differs, recovered_by, caught, goal_step, item_step, some_left, one_more, taken, run, query, start, unused}
+use Rattle.solve_model.proofs.Settling.{settled_silent, settled_inside}
 use Rattle.sandbox_walk.specs.declared.found.Kind.{Kind}
 use Rattle.sandbox_walk.specs.declared.found.Kind.TheVariants.{Plain, Part, Adds, Behind}
 use Rattle.sandbox_walk.specs.Shown.{Kinds, indicator, too_many, is_hat}
@@ -71,11 +69,12 @@ AllPassOn m ks (c ∷ cs) = PassesOn m ks c × AllPassOn m ks cs
 -- Two worlds that are alike for what may be run: their primitives may differ on what may not.
 pub record AreAlike (m : May) (ks : Kinds) (w w' : World) : Type 0 where
   pub same_clauses : w'.clauses ≡ w.clauses
+  pub same_outside : w'.outside ≡ w.outside
   pub same_replies : w'.replies ≡ w.replies
   pub same_limit : w'.limit ≡ w.limit
-  pub inside : (i : Pi) → m i → reaches_outside i ≡ false
+  pub inside : (i : Pi) → m i → w.outside i ≡ false
   pub pass_on : (i : Pi) → m i → AllPassOn m ks (clauses_of i w.clauses)
-  pub same_primitives : (i : Pi) (ts : List Tree) (v : ℕ) → m i → clauses_of i w.clauses ≡ [] → length ts ≡ i.arity → w'.primitive i.name ts v ≡ w.primitive i.name ts v
+  pub same_primitives : (i : Pi) (ts : List Tree) (v : ℕ) → m i → clauses_of i w.clauses ≡ [] → length ts ≡ i.arity → w'.primitive i ts v ≡ w.primitive i ts v
 
 -- two runs are the same, and don't end outside
 abbrev pub Same : Ran → Ran → Type 0
@@ -562,20 +561,20 @@ module _ (m : May) (ks : Kinds) (rows : KnowsRows m ks) where
     locally_same : (t : Tree) (is : List Item) (p : Place) (o : Bool) (u : Used) → Safe m ks t Part → ItemsSafe p.subst is → Same (locally r t is p o u) (locally r' t is p o u)
     locally_same t is p o u h g = same_after _ _ _ _ (rr _ _ o u (at_any p.subst t h, g)) (same_cut p.level)
 
-    undefined_same : (i : Pi) (is : List Item) (u : Used) → reaches_outside i ≡ false → Same (undefined i is u) (undefined i is u)
-    undefined_same i is u e =
-        subst (λ (b : Bool). Same (elim b as (λ x. Ran) [ true ↦ ends (Outside i) u | false ↦ throws (unknown_predicate i) is u ]) (elim b as (λ x. Ran) [ true ↦ ends (Outside i) u | false ↦ throws (unknown_predicate i) is u ])) (sym e) (same_ends _ u tt)
+    undefined_same : (b : Bool) (i : Pi) (is : List Item) (u : Used) → b ≡ false → Same (undefined b i is u) (undefined b i is u)
+    undefined_same b i is u e = subst (λ (x : Bool). Same (undefined x i is u) (undefined x i is u)) (sym e) (same_ends _ u tt)
 
-    performed_same : (q : Outcome) (i : Pi) (is : List Item) (p : Place) (o : Bool) (u : Used) → reaches_outside i ≡ false → ItemsSafe p.subst is → Same (performed r q i is p o u) (performed r' q i is p o u)
-    performed_same (Offers rs) i is p o u inside g = in_order_same (offered rs is p) o u (offered_safe rs is p g)
-    performed_same (Ball b) i is p o u inside g = same_ends _ u tt
-    performed_same Unknown i is p o u inside g = undefined_same i is u inside
+    performed_same : (q : Outcome) (b : Bool) (i : Pi) (is : List Item) (p : Place) (o : Bool) (u : Used) → b ≡ false → ItemsSafe p.subst is → Same (performed r q b i is p o u) (performed r' q b i is p o u)
+    performed_same (Offers rs) b i is p o u inside g = in_order_same (offered rs is p) o u (offered_safe rs is p g)
+    performed_same (Ball t) b i is p o u inside g = same_ends _ u tt
+    performed_same Unknown b i is p o u inside g = undefined_same b i is u inside
 
-    called_same : (cs : List Clause) (i : Pi) (t : Tree) (is : List Item) (p : Place) (o : Bool) (u : Used) → reaches_outside i ≡ false → AllPassOn m ks cs → (cs ≡ [] → w'.primitive i.name (arguments_of (apply p.subst t)) p.next ≡ w.primitive i.name (arguments_of (apply p.subst t)) p.next) → At p.subst t Part → ItemsSafe p.subst is →
+    called_same : (cs : List Clause) (i : Pi) (t : Tree) (is : List Item) (p : Place) (o : Bool) (u : Used) → w.outside i ≡ false → AllPassOn m ks cs → (cs ≡ [] → w'.primitive i (arguments_of (apply p.subst t)) p.next ≡ w.primitive i (arguments_of (apply p.subst t)) p.next) → At p.subst t Part → ItemsSafe p.subst is →
         Same (called w r cs i t is p o u) (called w' r' cs i t is p o u)
     called_same [] i t is p o u inside pass prim h g =
-        subst (λ (q : Outcome). Same (performed r (w.primitive i.name (arguments_of (apply p.subst t)) p.next) i is p o u) (performed r' q i is p o u)) (sym (prim refl))
-        (performed_same (w.primitive i.name (arguments_of (apply p.subst t)) p.next) i is p o u inside g)
+        subst (λ (f : Pi → Bool). Same (performed r (w.primitive i (arguments_of (apply p.subst t)) p.next) (w.outside i) i is p o u) (performed r' (w'.primitive i (arguments_of (apply p.subst t)) p.next) (f i) i is p o u)) (sym alike.same_outside)
+        (subst (λ (q : Outcome). Same (performed r (w.primitive i (arguments_of (apply p.subst t)) p.next) (w.outside i) i is p o u) (performed r' q (w.outside i) i is p o u)) (sym (prim refl))
+        (performed_same (w.primitive i (arguments_of (apply p.subst t)) p.next) (w.outside i) i is p o u inside g))
     called_same (c ∷ cs) i t is p o u inside pass prim h g =
         same_after _ _ _ _ (in_order_same (entered (c ∷ cs) t is p o) o u (entered_safe (c ∷ cs) pass t is p o h g)) (same_cut p.level)
 
@@ -669,9 +668,30 @@ module _ (m : May) (ks : Kinds) (rows : KnowsRows m ks) where
     goal_same (SetOf t a b) l cut is p o u h g = grouped_same setof_offers t (apply p.subst a) (witness (apply p.subst t) (apply p.subst a)) b is p o u h g
     goal_same (Predicate i t) l cut is p o u h g = predicate_same i t is p o u h g
 
+    -- a goal that talks with its client is one that the world has inside
+    talk_inside : (s : Bindings) (t : Tree) → At s t Part → talks (row_of t) ≡ true → w.outside (goal_pi t) ≡ false
+    unfolding row_of Safe
+    talk_inside s (variable n) h e = cc
+    talk_inside s (integer z) h e = cc
+    talk_inside s (atom f) h e = alike.inside (pi_of f 0) h
+    talk_inside s (compound f ts) h e = alike.inside (pi_of f (arity ts)) (may_call s f ts h).0
+
+    as_row : (s : Bindings) (t : Tree) → At s t Part → row_of t ≡ settled w.outside t (row_of t)
+    as_row s t h = by (talks (row_of t)) refl
+      where
+        by : (b : Bool) → talks (row_of t) ≡ b → row_of t ≡ settled w.outside t (row_of t)
+        by true e = settled_inside w.outside t (row_of t) (row_of t) refl (talk_inside s t h e)
+        by false e = settled_silent w.outside t (row_of t) (row_of t) refl e
+
+    settled_same : (t : Tree) (l : ℕ) (cut : Bool) (is : List Item) (p : Place) (o : Bool) (u : Used) → At p.subst t Part → ItemsSafe p.subst is →
+        Same (goal_step w r (settled w.outside t (row_of t)) l cut is p o u) (goal_step w' r' (settled w'.outside t (row_of t)) l cut is p o u)
+    settled_same t l cut is p o u h g =
+        subst (λ (f : Pi → Bool). Same (goal_step w r (settled w.outside t (row_of t)) l cut is p o u) (goal_step w' r' (settled f t (row_of t)) l cut is p o u)) (sym alike.same_outside)
+        (subst (λ (x : Row). Same (goal_step w r x l cut is p o u) (goal_step w' r' x l cut is p o u)) (as_row p.subst t h) (goal_same (row_of t) l cut is p o u (row_safe p.subst t h) g))
+
     item_same : (i : Item) (is : List Item) (p : Place) (o : Bool) (u : Used) → ItemsSafe p.subst (i ∷ is) → Same (item_step w r i is p o u) (item_step w' r' i is p o u)
     unfolding item_step
-    item_same (Goal t l cut) is p o u h = goal_same (row_of t) l cut is p o u (row_safe p.subst t h.0) h.1
+    item_same (Goal t l cut) is p o u h = settled_same t l cut is p o u h.0 h.1
     item_same (Commit l cut) is p o u h = same_after _ _ _ _ (rr is p cut u h) (same_cut_to l)
     item_same (ExitCatch l) is p o u h = rr is p o u h
 

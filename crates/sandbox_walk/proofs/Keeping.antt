@@ -1,15 +1,15 @@
 -- What the clauses of a program that keeps to the sandbox are.
-use Rattle.std.proofs.Common.{◌≡◌, ℕ, Bool, true, false, not, ◌&&◌, ◌||◌, ◌==◌, cond, List, [], ◌∷◌, map, filter, if◌then◌else◌, bytes_eq, IsTrue, Option, Some, None, is_some, is_none, refl, ap, sym, subst, ◌∙◌, ◌⊎◌, inl, inr}
+use Rattle.std.proofs.Common.{◌≡◌, Bool, true, false, not, ◌||◌, cond, List, [], ◌∷◌, filter, if◌then◌else◌, IsTrue, Option, Some, None, refl, ap, sym, subst, ◌∙◌, ◌⊎◌, inl, inr}
 use Rattle.std.specs.List.{list_any, list_all}
 use Rattle.std.proofs.lemmas.Bool.{and_parts}
 use Rattle.term_core.specs.declared.pi.Pi.{Pi}
 use Rattle.term_core.specs.Parts.{arguments_of}
 use Rattle.builtin_table.specs.declared.row.Row.{Row}
-use Rattle.builtin_table.specs.Table.{Rows, row_of, standard, indicators, is_library, reserved_of}
-use Rattle.program.specs.Clauses.{Clause, indicator_of, is_for, same_indicator, clauses_of}
+use Rattle.builtin_table.specs.Table.{Rows, row_of, indicators, is_library}
+use Rattle.program.specs.Clauses.{Clause, is_for, same_indicator, clauses_of}
 use Rattle.program.specs.Source.{begins_with_dollar}
 use Rattle.program.proofs.SourceLemmas.{is_own as indicator_for}
-use Rattle.sandbox_walk.specs.Keeping.{helpers, known, is_known, run_kinds, has_goal, hands_on, is_library_row, runs_goals, is_reserved, keeps_of, clause_keeps}
+use Rattle.sandbox_walk.specs.Keeping.{is_known, run_kinds, has_goal, hands_on, runs_goals, is_reserved, keeps_of, clause_keeps}
 use Rattle.sandbox_walk.proofs.Walking.{same}
 use Rattle.sandbox_walk.proofs.Instances.{May}
 use Rattle.sandbox_walk.proofs.Guarded.{PassesOn, AllPassOn}
@@ -48,8 +48,8 @@ row_among test (x ∷ rs) i r e k = by (same_indicator x.0 i) (test x.1) refl re
     by false false s t h go = go h k
 
 -- a row of the table that isn't the library's is reserved
-pub not_library_reserved : (i : Pi) (r : Row) → row_of i standard ≡ Some r → is_library r.class ≡ false → IsTrue (is_reserved i)
-not_library_reserved i r e k = row_among (λ x. not (is_library x.class)) standard i r e (ap not k)
+pub not_library_reserved : (rows : Rows) (i : Pi) (r : Row) → row_of i rows ≡ Some r → is_library r.class ≡ false → IsTrue (is_reserved rows i)
+not_library_reserved rows i r e k = row_among (λ x. not (is_library x.class)) rows i r e (ap not k)
 
 -- a property of each predicate that has a row
 pub row_each : (P : Pi → Type 0) (rs : Rows) → EachOf P (indicators rs) → (i : Pi) (r : Row) → row_of i rs ≡ Some r → P i
@@ -74,51 +74,51 @@ row_all q test (x ∷ rs) a i r e k = by (same_indicator x.0 i) (test x.1) refl 
 
 -- ---- clauses
 
-keeps_at : (c : Clause) (i : Pi) → is_for i c.head ≡ true → clause_keeps c ≡ true → keeps_of c i ≡ true
-keeps_at c i e k = ap (λ (o : Option Pi). elim o as (λ x. Bool) [ None ↦ true | Some j ↦ keeps_of c j ]) (sym (indicator_for c.head i e)) ∙ k
+keeps_at : (rows : Rows) (c : Clause) (i : Pi) → is_for i c.head ≡ true → clause_keeps rows c ≡ true → keeps_of rows c i ≡ true
+keeps_at rows c i e k = ap (λ (o : Option Pi). elim o as (λ x. Bool) [ None ↦ true | Some j ↦ keeps_of rows c j ]) (sym (indicator_for c.head i e)) ∙ k
 
 not_both : (b : Bool) → b ≡ true → not b ≡ true → ⊥
 not_both true e k = cc
 not_both false e k = cc
 
 -- no clause is of a reserved predicate
-pub none_reserved : (i : Pi) → IsTrue (is_reserved i) → (cs : List Clause) → list_all clause_keeps cs ≡ true → clauses_of i cs ≡ []
+pub none_reserved : (rows : Rows) (i : Pi) → IsTrue (is_reserved rows i) → (cs : List Clause) → list_all (clause_keeps rows) cs ≡ true → clauses_of i cs ≡ []
 unfolding clauses_of
-none_reserved i r [] k = refl
-none_reserved i r (c ∷ cs) k =
-    let q = and_parts (clause_keeps c) (list_all clause_keeps cs) k in
-    by (is_for i c.head) refl q.0 (none_reserved i r cs q.1)
+none_reserved rows i r [] k = refl
+none_reserved rows i r (c ∷ cs) k =
+    let q = and_parts (clause_keeps rows c) (list_all (clause_keeps rows) cs) k in
+    by (is_for i c.head) refl q.0 (none_reserved rows i r cs q.1)
   where
-    by : (b : Bool) → is_for i c.head ≡ b → clause_keeps c ≡ true → clauses_of i cs ≡ [] → (if b then c ∷ clauses_of i cs else clauses_of i cs) ≡ []
-    by true e h rest = absurd (not_both (is_reserved i) r (and_parts (not (is_reserved i)) (if c.own then not (begins_with_dollar i.name) else if runs_goals i then hands_on (has_goal (arguments_of c.head) (run_kinds i)) c.body else true) (keeps_at c i e h)).0)
+    by : (b : Bool) → is_for i c.head ≡ b → clause_keeps rows c ≡ true → clauses_of i cs ≡ [] → (if b then c ∷ clauses_of i cs else clauses_of i cs) ≡ []
+    by true e h rest = absurd (not_both (is_reserved rows i) r (and_parts (not (is_reserved rows i)) (if c.own then not (begins_with_dollar i.name) else if runs_goals rows i then hands_on rows (has_goal (arguments_of c.head) (run_kinds rows i)) c.body else true) (keeps_at rows c i e h)).0)
     by false e h rest = rest
 
-module _ (m : May) (may : (i : Pi) → IsTrue (is_known i) → m i) (i : Pi) (runs : runs_goals i ≡ true) where
-  pass_one : (c : Clause) → is_for i c.head ≡ true → clause_keeps c ≡ true → (c.own ≡ true → begins_with_dollar i.name ≡ true) → PassesOn m run_kinds c
+module _ (rows : Rows) (m : May) (may : (i : Pi) → IsTrue (is_known i) → m i) (i : Pi) (runs : runs_goals rows i ≡ true) where
+  pass_one : (c : Clause) → is_for i c.head ≡ true → clause_keeps rows c ≡ true → (c.own ≡ true → begins_with_dollar i.name ≡ true) → PassesOn m (run_kinds rows) c
   pass_one c e k lib =
-      let q = and_parts (not (is_reserved i)) (if c.own then not (begins_with_dollar i.name) else if runs_goals i then hands_on (has_goal (arguments_of c.head) (run_kinds i)) c.body else true) (keeps_at c i e k) in
-      by c.own (runs_goals i) refl runs q.1
+      let q = and_parts (not (is_reserved rows i)) (if c.own then not (begins_with_dollar i.name) else if runs_goals rows i then hands_on rows (has_goal (arguments_of c.head) (run_kinds rows i)) c.body else true) (keeps_at rows c i e k) in
+      by c.own (runs_goals rows i) refl runs q.1
     where
-      by : (o r : Bool) → c.own ≡ o → r ≡ true → (if o then not (begins_with_dollar i.name) else if r then hands_on (has_goal (arguments_of c.head) (run_kinds i)) c.body else true) ≡ true → PassesOn m run_kinds c
+      by : (o r : Bool) → c.own ≡ o → r ≡ true → (if o then not (begins_with_dollar i.name) else if r then hands_on rows (has_goal (arguments_of c.head) (run_kinds rows i)) c.body else true) ≡ true → PassesOn m (run_kinds rows) c
       by true r a b h = absurd (not_both (begins_with_dollar i.name) (lib a) h)
-      by false true a b h = hands m may c i (indicator_for c.head i e) h
+      by false true a b h = hands rows m may c i (indicator_for c.head i e) h
       by false false a b h = cc
 
   -- the clauses of a library's predicate that runs goals pass on what they are given
-  pub all_pass : (cs : List Clause) → list_all clause_keeps cs ≡ true → (list_any (λ c. c.own) (clauses_of i cs) ≡ false) ⊎ (begins_with_dollar i.name ≡ true) → AllPassOn m run_kinds (clauses_of i cs)
+  pub all_pass : (cs : List Clause) → list_all (clause_keeps rows) cs ≡ true → (list_any (λ c. c.own) (clauses_of i cs) ≡ false) ⊎ (begins_with_dollar i.name ≡ true) → AllPassOn m (run_kinds rows) (clauses_of i cs)
   unfolding clauses_of
   all_pass [] k o = tt
   all_pass (c ∷ cs) k o =
-      let q = and_parts (clause_keeps c) (list_all clause_keeps cs) k in
+      let q = and_parts (clause_keeps rows c) (list_all (clause_keeps rows) cs) k in
       by (is_for i c.head) refl o (all_pass cs q.1) q.0
     where
       by : (b : Bool) → is_for i c.head ≡ b → (list_any (λ x. x.own) (if b then c ∷ clauses_of i cs else clauses_of i cs) ≡ false) ⊎ (begins_with_dollar i.name ≡ true) →
-          ((list_any (λ x. x.own) (clauses_of i cs) ≡ false) ⊎ (begins_with_dollar i.name ≡ true) → AllPassOn m run_kinds (clauses_of i cs)) → clause_keeps c ≡ true →
-          AllPassOn m run_kinds (if b then c ∷ clauses_of i cs else clauses_of i cs)
+          ((list_any (λ x. x.own) (clauses_of i cs) ≡ false) ⊎ (begins_with_dollar i.name ≡ true) → AllPassOn m (run_kinds rows) (clauses_of i cs)) → clause_keeps rows c ≡ true →
+          AllPassOn m (run_kinds rows) (if b then c ∷ clauses_of i cs else clauses_of i cs)
       by true e (inr d) go h = (pass_one c e h (λ a. d), go (inr d))
       by true e (inl n) go h = whose c.own refl n
         where
-          whose : (w : Bool) → c.own ≡ w → (w || list_any (λ x. x.own) (clauses_of i cs)) ≡ false → AllPassOn m run_kinds (c ∷ clauses_of i cs)
+          whose : (w : Bool) → c.own ≡ w → (w || list_any (λ x. x.own) (clauses_of i cs)) ≡ false → AllPassOn m (run_kinds rows) (c ∷ clauses_of i cs)
           whose true a f = absurd (differ f)
           whose false a f = (pass_one c e h (λ b. absurd (differ (sym b ∙ a))), go (inl f))
       by false e x go h = go x

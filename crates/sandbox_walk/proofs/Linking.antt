@@ -1,11 +1,9 @@
 -- From what is shown to safe terms: a passed goal is safe, and so is what the clauses that it reaches make of it.
-use Rattle.std.proofs.Common.{◌≡◌, ℕ, zero, suc, ◌+◌, Bool, true, false, ◌&&◌, ◌||◌, List, [], ◌∷◌, ◌++◌, length, if◌then◌else◌, IsTrue, Option, Some, None, refl, ap, sym, subst, ◌∙◌, ◌⊎◌, inl, inr, arith}
-use Rattle.std.specs.List.{list_any, list_all, flat_map}
-use Rattle.std.proofs.lemmas.Bool.{and_parts}
+use Rattle.std.proofs.Common.{◌≡◌, ℕ, zero, suc, ◌+◌, Bool, true, false, ◌||◌, List, [], ◌∷◌, ◌++◌, length, if◌then◌else◌, IsTrue, Option, Some, None, refl, ap, sym, subst, ◌∙◌, ◌⊎◌, inl, inr}
+use Rattle.std.specs.List.{list_all, flat_map}
 use Rattle.term_core.specs.declared.pi.Pi.{Pi}
 use Rattle.term_core.specs.Tree.{Tree, variable, integer, atom, compound, Trees, no_trees, tree, arity}
-use Rattle.term_core.specs.Substitution.{substituted}
-use Rattle.builtin_table.specs.Outside.{is_outside_in, reaches_outside}
+use Rattle.builtin_table.specs.Outside.{is_outside_in}
 use Rattle.builtin_table.specs.Table.{Rows}
 use Rattle.program.specs.Clauses.{Clause, same_indicator, clauses_of}
 use Rattle.solve_model.specs.Run.{World, query}
@@ -15,13 +13,13 @@ use Rattle.sandbox_walk.specs.declared.found.Stands.{Stands}
 use Rattle.sandbox_walk.specs.declared.found.Stands.TheVariants.{Opens, Unbound, Shut}
 use Rattle.sandbox_walk.specs.declared.found.Found.{Found}
 use Rattle.sandbox_walk.specs.declared.found.Found.TheVariants.{Literal, Place}
-use Rattle.sandbox_walk.specs.Shown.{Kinds, kinds_in, indicator, shown, shown_in, fresh, fresh_one, placed, stands, too_many, is_hat}
+use Rattle.sandbox_walk.specs.Shown.{Kinds, kinds_in, indicator, shown, shown_in, fresh, placed, stands, too_many, is_hat}
 use Rattle.sandbox_walk.specs.Verdict.{Reach, by_goal, by_clause, enters, in_goal, in_clause, in_predicate, is_literal, has_literal}
 use Rattle.sandbox_walk.specs.Passes.{opens, Passes}
 use Rattle.sandbox_walk.proofs.Joining.{all_parts, any_left, any_right}
 use Rattle.sandbox_walk.proofs.Walking.{itself}
 use Rattle.sandbox_walk.proofs.Instances.{May, when, SafeFresh, Safe, SafeIn, safe_instance}
-use Rattle.sandbox_walk.proofs.Guarded.{PassesOn, AllPassOn, KnowsRows, AreAlike, Same, query_same}
+use Rattle.sandbox_walk.proofs.Guarded.{AllPassOn, KnowsRows, Same, query_same}
 
 -- a kind that is a goal
 abbrev pub IsGoal : Kind → Type 0
@@ -178,14 +176,15 @@ module _ (rows : Rows) (p : List Clause) (known : Pi → Bool) (run_ks : Kinds) 
   may_inside i (inr k) = acc.inside i k
 
   -- A passed goal runs the same whatever the primitives outside would do, and doesn't end outside.
-  pub sound : (w w' : World) → w.clauses ≡ p → w'.clauses ≡ w.clauses → w'.replies ≡ w.replies → w'.limit ≡ w.limit →
-      ((i : Pi) → is_outside_in rows i ≡ false → reaches_outside i ≡ false) →
-      ((i : Pi) (ts : List Tree) (v : ℕ) → is_outside_in rows i ≡ false → clauses_of i p ≡ [] → length ts ≡ i.arity → w'.primitive i.name ts v ≡ w.primitive i.name ts v) →
+  pub sound : (w w' : World) → w.clauses ≡ p → w'.clauses ≡ w.clauses → w'.outside ≡ w.outside → w'.replies ≡ w.replies → w'.limit ≡ w.limit →
+      ((i : Pi) → is_outside_in rows i ≡ false → w.outside i ≡ false) →
+      ((i : Pi) (ts : List Tree) (v : ℕ) → is_outside_in rows i ≡ false → clauses_of i p ≡ [] → length ts ≡ i.arity → w'.primitive i ts v ≡ w.primitive i ts v) →
       (t : Tree) → Same (query w g t) (query w' g t)
-  sound w w' e clauses replies limit inside prims t =
+  sound w w' e clauses outside replies limit inside prims t =
       query_same MayRun run_ks (acc.knows MayRun (λ i h. inr h)) w w'
       (record {
         same_clauses = clauses;
+        same_outside = outside;
         same_replies = replies;
         same_limit = limit;
         inside = λ i h. inside i (may_inside i h);

@@ -1,15 +1,13 @@
 -- Rounds reach what is reached: after as many as there are clauses no round reads a clause more.
-use Rattle.std.proofs.Common.{◌≡◌, ℕ, zero, suc, ◌+◌, ◌≤◌, Bool, true, false, ◌||◌, ◌&&◌, ◌==◌, List, [], ◌∷◌, ◌++◌, map, length, IsTrue, bytes_eq, refl, ap, sym, subst, ◌∙◌, ◌⊎◌, inl, inr, arith, nat_le, Option, Some, None, if◌then◌else◌}
+use Rattle.std.proofs.Common.{◌≡◌, ℕ, zero, suc, ◌+◌, ◌≤◌, Bool, true, false, ◌||◌, ◌&&◌, List, [], ◌∷◌, map, length, IsTrue, refl, ap, sym, subst, ◌∙◌, ◌⊎◌, inl, inr, arith, nat_le, Option, Some, None, if◌then◌else◌}
 use Rattle.std.specs.Prelude.{⊤}
 use Rattle.std.specs.List.{list_any, flat_map}
 use Rattle.std.proofs.lemmas.Bool.{and_parts, leb-true, leb-false}
 use Rattle.term_core.specs.declared.pi.Pi.{Pi}
 use Rattle.term_core.specs.Tree.{Tree, variable, integer, atom, compound, arity}
 use Rattle.builtin_table.specs.Table.{Rows}
-use Rattle.program.specs.Clauses.{Clause, indicator_of, same_indicator, is_for, clauses_of}
-use Rattle.sandbox_walk.specs.declared.found.Found.{Found}
-use Rattle.sandbox_walk.specs.declared.unsafe_goal.Unsafe.{Unsafe}
-use Rattle.sandbox_walk.specs.Verdict.{Reach, by_goal, by_clause, TellsReach, enters, in_goal, in_clause, in_predicate, is_literal, has_literal, reads, all_shown, refusal, Verdict}
+use Rattle.program.specs.Clauses.{Clause, indicator_of, is_for, clauses_of}
+use Rattle.sandbox_walk.specs.Verdict.{Reach, by_goal, by_clause, TellsReach, enters, in_goal, in_clause, is_literal, has_literal, reads, all_shown, refusal}
 use Rattle.sandbox_walk.specs.Computed.{reached_in, is_reached, verdict, IsTheVerdict, TheVerdictIsOne}
 use Rattle.sandbox_walk.proofs.Joining.{any_left, any_right}
 use Rattle.sandbox_walk.proofs.Walking.{same, itself, or_left, or_right, or_either, any-append}

@@ -3,8 +3,9 @@ use Rattle.std.specs.Prelude.{◌≡◌, ℕ, zero, suc, Bool, ◌||◌, ◌&&�
 use Rattle.std.specs.List.{list_any}
 use Rattle.term_core.specs.declared.pi.Pi.{Pi}
 use Rattle.term_core.specs.Tree.{Tree}
-use Rattle.builtin_table.specs.Table.{Rows}
+use Rattle.builtin_table.specs.Table.{Rows, rows_of_app}
 use Rattle.program.specs.Clauses.{Clause}
+use Rattle.program.specs.Loaded.{Loaded}
 use Rattle.sandbox_walk.specs.declared.unsafe_goal.Unsafe.{Unsafe}
 use Rattle.sandbox_walk.specs.Verdict.{in_goal, in_clause, has_literal, reads, all_shown, refusal, Verdict}
 
@@ -20,6 +21,10 @@ is_reached rows p g i = reached_in rows p g (suc (length p)) i
 
 unfoldable pub verdict : Rows → List Clause → Tree → Option Unsafe
 verdict rows p g = refusal rows (all_shown rows p g (is_reached rows p g))
+
+-- over a program, by the table of its application
+abbrev pub verdict_over : Loaded → Tree → Option Unsafe
+verdict_over l g = verdict (rows_of_app l.app) l.clauses g
 
 -- There is a verdict on each goal over each program, and no other than this one.
 pub record IsTheVerdict (rows : Rows) (p : List Clause) (g : Tree) : Type 0 where

@@ -2,14 +2,16 @@
 use Rattle.std.specs.Prelude.{ℕ, Bool, true, false, not, ◌&&◌, ◌||◌, ◌==◌, List, [], ◌∷◌, ◌++◌, map, filter, cond, if◌then◌else◌, ℤ, pos, negsuc, codes, IsTrue, Option, Some, None, is_some}
 use Rattle.std.specs.List.{list_any, list_all}
 use Prim.Native.String.{String}
+use Rattle.term_core.specs.declared.app.App.{App}
 use Rattle.term_core.specs.declared.pi.Pi.{Pi}
 use Rattle.term_core.specs.Tree.{Tree, variable, integer, atom, compound, Trees, no_trees, tree, arity, tree_list}
 use Rattle.term_core.specs.Parts.{arguments_of}
 use Rattle.builtin_table.specs.declared.row.Class.TheVariants.{Library}
 use Rattle.builtin_table.specs.declared.row.Row.{Row}
-use Rattle.builtin_table.specs.Table.{Rows, row_of, standard, indicators, is_library, reserved_of}
+use Rattle.builtin_table.specs.Table.{Rows, row_of, rows_of_app, indicators, is_library, reserved_of}
 use Rattle.program.specs.Bodies.{is_connective}
 use Rattle.program.specs.Clauses.{Clause, indicator_of, same_indicator, clauses_of}
+use Rattle.program.specs.Loaded.{Loaded}
 use Rattle.program.specs.Source.{begins_with_dollar}
 use Rattle.sandbox_walk.specs.declared.found.Kind.{Kind}
 use Rattle.sandbox_walk.specs.declared.found.Kind.TheVariants.{Plain, Part, Adds, Behind}
@@ -32,10 +34,10 @@ helpers =
     ∷ helper "$foldl" 4 (goal_at 2 3) ∷ helper "$include" 3 (goal_at 2 1) ∷ helper "$exclude" 3 (goal_at 2 1) ∷ []
 
 -- how the arguments of a literal are run: as the table declares them, and those of the helpers
-unfoldable pub run_kinds : Kinds
-run_kinds i =
+unfoldable pub run_kinds : Rows → Kinds
+run_kinds rows i =
     if is_connective i.name && i.arity == 2 then Part ∷ Part ∷ []
-    else elim (row_of i helpers) [ None ↦ kinds_in standard i | Some row ↦ map declared_kind row.metas ]
+    else elim (row_of i helpers) [ None ↦ kinds_in rows i | Some row ↦ map declared_kind row.metas ]
 
 -- what the clauses of these predicates, and control itself, may call
 abbrev pub known : List Pi
@@ -73,17 +75,17 @@ hands_arguments given (t ∷ ts) (x ∷ xs) = hands_argument given t x && hands_
 
 -- A body calls known predicates alone, and hands them nothing as a goal but what it was given as one.
 unfoldable mutual
-  pub hands_on : (ℕ → ℕ → Bool) → Tree → Bool
-  hands_on given (variable n) = false
-  hands_on given (integer z) = false
-  hands_on given (atom f) = is_known (indicator f 0)
-  hands_on given (compound f ts) =
+  pub hands_on : Rows → (ℕ → ℕ → Bool) → Tree → Bool
+  hands_on rows given (variable n) = false
+  hands_on rows given (integer z) = false
+  hands_on rows given (atom f) = is_known (indicator f 0)
+  hands_on rows given (compound f ts) =
       is_known (indicator f (arity ts))
-      && (if is_connective f && arity ts == 2 then all_hand_on given ts else hands_arguments given (tree_list ts) (run_kinds (indicator f (arity ts))))
+      && (if is_connective f && arity ts == 2 then all_hand_on rows given ts else hands_arguments given (tree_list ts) (run_kinds rows (indicator f (arity ts))))
 
-  pub all_hand_on : (ℕ → ℕ → Bool) → Trees → Bool
-  all_hand_on given no_trees = true
-  all_hand_on given (tree t ts) = hands_on given t && all_hand_on given ts
+  pub all_hand_on : Rows → (ℕ → ℕ → Bool) → Trees → Bool
+  all_hand_on rows given no_trees = true
+  all_hand_on rows given (tree t ts) = hands_on rows given t && all_hand_on rows given ts
 
 -- ---- programs
 
@@ -92,40 +94,44 @@ is_library_row None = false
 is_library_row (Some r) = is_library r.class
 
 -- a predicate of the library that runs goals
-abbrev pub runs_goals : Pi → Bool
-runs_goals i = is_library_row (row_of i standard) || is_some (row_of i helpers)
+abbrev pub runs_goals : Rows → Pi → Bool
+runs_goals rows i = is_library_row (row_of i rows) || is_some (row_of i helpers)
 
-abbrev pub is_reserved : Pi → Bool
-is_reserved i = list_any (λ r. same_indicator r i) (reserved_of standard)
+abbrev pub is_reserved : Rows → Pi → Bool
+is_reserved rows i = list_any (λ r. same_indicator r i) (reserved_of rows)
 
 -- A clause of this predicate is of none that is reserved. The client's is of none whose name begins with `$`; the library's hands goals on, where its predicate runs goals.
-abbrev pub keeps_of : Clause → Pi → Bool
-keeps_of c i =
-    not (is_reserved i)
+abbrev pub keeps_of : Rows → Clause → Pi → Bool
+keeps_of rows c i =
+    not (is_reserved rows i)
     && (if c.own then not (begins_with_dollar i.name)
-    else if runs_goals i then hands_on (has_goal (arguments_of c.head) (run_kinds i)) c.body else true)
+    else if runs_goals rows i then hands_on rows (has_goal (arguments_of c.head) (run_kinds rows i)) c.body else true)
 
-abbrev pub clause_keeps : Clause → Bool
-clause_keeps c = elim (indicator_of c.head) [ None ↦ true | Some i ↦ keeps_of c i ]
+abbrev pub clause_keeps : Rows → Clause → Bool
+clause_keeps rows c = elim (indicator_of c.head) [ None ↦ true | Some i ↦ keeps_of rows c i ]
 
 -- a client's clause
-abbrev pub client_keeps : Clause → Bool
-client_keeps c = c.own && clause_keeps c
+abbrev pub client_keeps : Rows → Clause → Bool
+client_keeps rows c = c.own && clause_keeps rows c
 
 -- a goal that reaches the helper doesn't pass
-abbrev pub is_closed : List Clause → Pi → Bool
-is_closed p i = not (list_all opens (in_predicate standard p i))
+abbrev pub is_closed : Rows → List Clause → Pi → Bool
+is_closed rows p i = not (list_all opens (in_predicate rows p i))
 
 abbrev pub is_there : List Clause → Pi → Bool
 is_there p i = elim (clauses_of i p) [ [] ↦ false | c ∷ cs ↦ true ]
 
-abbrev pub library_rows : List Pi
-library_rows = indicators (filter (λ r. is_library r.1.class) standard)
+abbrev pub library_rows : Rows → List Pi
+library_rows rows = indicators (filter (λ r. is_library r.1.class) rows)
 
--- what is asked of a program, as a test
-unfoldable pub keeps_sandbox : List Clause → Bool
-keeps_sandbox p = list_all clause_keeps p && (list_all (is_closed p) (indicators helpers) && list_all (is_there p) library_rows)
+-- what is asked of clauses by these rows, as a test
+unfoldable pub keeps_sandbox : Rows → List Clause → Bool
+keeps_sandbox rows p = list_all (clause_keeps rows) p && (list_all (is_closed rows p) (indicators helpers) && list_all (is_there p) (library_rows rows))
 
--- Each clause keeps to the table, the helpers aren't reached by a goal that passes, and each row of the library has its clauses.
-abbrev pub KeepsSandbox : List Clause → Type 0
-KeepsSandbox p = IsTrue (keeps_sandbox p)
+-- Each clause keeps to the table of the application, the helpers aren't reached by a goal that passes, and each row of the library has its clauses.
+abbrev pub ClausesKeep : App → List Clause → Type 0
+ClausesKeep app p = IsTrue (keeps_sandbox (rows_of_app app) p)
+
+-- A program keeps to the sandbox where its clauses do, by the table of its application.
+abbrev pub KeepsSandbox : Loaded → Type 0
+KeepsSandbox l = ClausesKeep l.app l.clauses

@@ -7,8 +7,9 @@ use Rattle.term_core.specs.declared.pi.Pi.{Pi}
 use Rattle.term_core.specs.Tree.{Tree}
 use Rattle.term_core.specs.Order.{name_cmp}
 use Rattle.builtin_table.specs.Outside.{is_outside_in}
-use Rattle.builtin_table.specs.Table.{Rows, row_of}
+use Rattle.builtin_table.specs.Table.{Rows, row_of, rows_of_app}
 use Rattle.program.specs.Clauses.{Clause, indicator_of, same_indicator, clauses_of}
+use Rattle.program.specs.Loaded.{Loaded}
 use Rattle.sandbox_walk.specs.declared.found.Kind.TheVariants.{Part, Adds}
 use Rattle.sandbox_walk.specs.declared.found.Stands.TheVariants.{Opens, Unbound, Shut}
 use Rattle.sandbox_walk.specs.declared.found.Found.{Found}
@@ -126,3 +127,11 @@ Verdict rows p g v = (reached : Pi → Bool) × TellsReach rows p g reached × (
 abbrev pub Refuses : Rows → List Clause → Tree → Unsafe → Type 0
 Refuses rows p g Memory = ⊤
 Refuses rows p g e = Verdict rows p g (Some e)
+
+-- ---- over a program, by the table of its application
+
+abbrev pub VerdictOver : Loaded → Tree → Option Unsafe → Type 0
+VerdictOver l g v = Verdict (rows_of_app l.app) l.clauses g v
+
+abbrev pub RefusesOver : Loaded → Tree → Unsafe → Type 0
+RefusesOver l g e = Refuses (rows_of_app l.app) l.clauses g e

@@ -1,12 +1,21 @@
 // How the arguments of a literal are read.
 ghost use Rattle.std.specs.Prelude.{◌≡◌, map, IfOk};
+ghost use Rattle.builtin_table.specs.Table.{rows_of_app};
 ghost use Rattle.sandbox_walk.specs.Shown.{declared_kind as declared, kinds_in as kinds_of};
 
 use crate::found::Kind;
 use builtin_table::Table;
-use program::is_connective;
+use program::{Program, is_connective};
 use std::alloc::Global;
 use term_core::{Memory, Pi};
+
+/// The table of built-in predicates of the program's application. `Err` is want of memory.
+pub fn table_of(alloc: Global, program: &Program) -> Result<Table, Memory>
+    ensures { IfOk result (λ t. t ≡ rows_of_app program.now.app) }
+{
+    let table = Table::of(alloc, program.app())?;
+    Ok(table)
+}
 
 // From the first argument on; the arguments behind these are no goals.
 #[tactic(auto, unfolding(crate::specs::Shown::kinds_in))]

@@ -2,19 +2,20 @@
 ghost use Rattle.sandbox_walk.specs.Computed.{TheVerdictIsOne};
 ghost use Rattle.sandbox_walk.specs.Sound.{PassedGoalsStayInside, SafeGoalsStayInside, LoadedProgramsKeepTheSandbox};
 
-/// A goal that passes doesn't end outside, and takes no primitive but of the classes Control, Safe and Meta: it runs the same
-/// whatever the others would do. This holds for every limit of steps and for all replies, over each program that keeps to the sandbox.
+/// A goal that passes doesn't end outside, and takes no primitive but of the classes Control, Safe and Meta, by the table of the
+/// program's application: it runs the same whatever the others would do. This holds for every limit of steps and for all
+/// replies, over each program that keeps to the sandbox.
 pub fn passed_goals_stay_inside()
     ensures { PassedGoalsStayInside }
 {}
 
-/// No run of a goal on which the verdict is that it may be asked ends outside, over a program that keeps to the sandbox.
+/// The same of a goal on which the verdict is that it may be asked.
 pub fn safe_goals_stay_inside()
     ensures { SafeGoalsStayInside }
 {}
 
-/// A program keeps to the sandbox where the library over which it is loaded does, and no clause of the client is of a reserved
-/// predicate or of one whose name begins with `$`.
+/// The clauses of a program keep to the sandbox where those of the library over which it is loaded do, and no clause of the
+/// client is of a reserved predicate or of one whose name begins with `$`.
 pub fn loaded_programs_keep_the_sandbox()
     ensures { LoadedProgramsKeepTheSandbox }
 {}

@@ -4,6 +4,7 @@
 //! a predicate that is outside, and where what it would run can't be seen before it runs.
 #![tactic(auto)]
 
+mod bodies;
 mod found;
 mod kinds;
 mod laws;
@@ -17,6 +18,7 @@ mod texts;
 mod unsafe_goal;
 mod verdict;
 
+pub use kinds::table_of;
 pub use laws::{
     loaded_programs_keep_the_sandbox, passed_goals_stay_inside, safe_goals_stay_inside,
     the_verdict_is_one,

@@ -30,7 +30,7 @@ pub(crate) fn reached(
     program: &Program,
     goal: &Term,
 ) -> Result<Seen, Memory>
-    ensures { IfOk result (λ s. TellsReach table.now program.now goal.now (has_predicate s)) }
+    ensures { IfOk result (λ s. TellsReach table.now program.now.clauses goal.now (has_predicate s)) }
 {
     let mut walk = begin(alloc, table, program, goal)?;
     for _ in 0..u64::MAX {
@@ -52,7 +52,7 @@ fn enter(
 ) -> Result<(), Memory>
     ensures { IfOk result (λ _. (g : Tree) (before : Walking) →
         before.waiting.items ≡ walk.old.waiting.items ++ pi.now ∷ [] → before.seen ≡ walk.old.seen →
-        IsWalking table.now program.now g before → IsWalking table.now program.now g walk.new) }
+        IsWalking table.now program.now.clauses g before → IsWalking table.now program.now.clauses g walk.new) }
 {
     if !enters(table, program, pi) {
         return Ok(());
@@ -64,7 +64,7 @@ fn enter(
 
 // Begins with the goal's own literals.
 fn begin(alloc: Global, table: &Table, program: &Program, goal: &Term) -> Result<Walk, Memory>
-    ensures { IfOk result (λ w. IsWalking table.now program.now goal.now w) }
+    ensures { IfOk result (λ w. IsWalking table.now program.now.clauses goal.now w) }
 {
     let _ = program;
     let found = shown(alloc, table, goal, Kind::Adds(0))?;
@@ -78,7 +78,7 @@ fn begin(alloc: Global, table: &Table, program: &Program, goal: &Term) -> Result
 
 // Whether the clauses of a predicate are read.
 pub(crate) fn enters(table: &Table, program: &Program, pi: &Pi) -> bool
-    ensures { result ≡ enters_predicate table.now program.now pi.now }
+    ensures { result ≡ enters_predicate table.now program.now.clauses pi.now }
 {
     has_own(program.clauses(pi)) || table.row(pi).is_none()
 }

@@ -22,7 +22,7 @@ pub(crate) fn all_shown(
     goal: &Term,
     reached: &Seen,
 ) -> Result<Vec<Found>, Memory>
-    ensures { IfOk result (λ v. v.items ≡ all_shown_of table.now program.now goal.now (has_predicate reached.now)) }
+    ensures { IfOk result (λ v. v.items ≡ all_shown_of table.now program.now.clauses goal.now (has_predicate reached.now)) }
 {
     let mut all = shown(alloc, table, goal, Kind::Adds(0))?;
     let clauses = program.in_order(alloc)?;
@@ -43,7 +43,7 @@ fn read(
 ) -> Result<(), Memory>
     ensures { IfOk result (λ _.
         let c = clause_of clause.now in
-        all.new.items ≡ all.old.items ++ (if reads_clause table.now program.now (has_predicate reached.now) c then in_clause table.now c else [])) }
+        all.new.items ≡ all.old.items ++ (if reads_clause table.now program.now.clauses (has_predicate reached.now) c then in_clause table.now c else [])) }
 {
     if reads(alloc, table, program, reached, clause)? {
         let mut found = shown(alloc, table, &clause.body, Kind::Part)?;
@@ -60,7 +60,7 @@ fn reads(
     reached: &Seen,
     clause: &Clause,
 ) -> Result<bool, Memory>
-    ensures { IfOk result (λ b. b ≡ reads_clause table.now program.now (has_predicate reached.now) (clause_of clause.now)) }
+    ensures { IfOk result (λ b. b ≡ reads_clause table.now program.now.clauses (has_predicate reached.now) (clause_of clause.now)) }
 {
     let Some(pi) = indicator(alloc, &clause.head)? else {
         return Ok(false);

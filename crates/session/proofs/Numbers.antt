@@ -124,7 +124,7 @@ turned_numbered spec n e b Ended p h = record { lost = h.lost }
 
 entry_numbered : (spec : Spec) (e : Entry) (p : Pengine) → Numbered p → Numbered (entered spec e p)
 entry_numbered spec (Sent r) p h = record { lost = h.lost }
-entry_numbered spec Pulled p h = record { lost = h.lost }
+entry_numbered spec (Pulled m) p h = record { lost = h.lost }
 entry_numbered spec Abort p h = abort_numbered spec p.state p (λ k x. earlier p.state k p.number (h.lost k x)) h
 entry_numbered spec Destroy p h = destroy_numbered p.state p (λ k x. earlier p.state k p.number (h.lost k x))
 entry_numbered spec Taken p h = record { lost = h.lost }

@@ -18,39 +18,39 @@ use Rattle.session.proofs.Lively.{count, Longer, fresh, next_moves, resp_moves}
 use Rattle.session.proofs.Schedule.{Fitting, allowed, after_next, after_respond, Lively, schedule}
 
 module _ (spec : Spec) (real : IsResolution spec) (a : Ask) where
-  as_part : (rs : List Request) → spec.part a rs ≡ part_of real.size (stops real.fits (replying real.world rs) a.goal a.template) (real.chunk a) [] rs
+  as_part : (rs : List Request) → spec.part a rs ≡ part_of (real.style a) (stops real.fits (replying real.world rs) a.goal (real.answer a)) (real.chunk a) [] rs
   unfolding part
   as_part rs = real.is_part a rs
 
-  all_well : spec.refusal a ≡ None → (rs : List Request) → HasEnd ⊥ (stops real.fits (replying real.world rs) a.goal a.template) (count rs)
-  all_well v rs = query_ends ⊥ real.fits (replying real.world rs) a.goal a.template (real.inside a v rs)
+  all_well : spec.refusal a ≡ None → (rs : List Request) → HasEnd ⊥ (stops real.fits (replying real.world rs) a.goal (real.answer a)) (count rs)
+  all_well v rs = query_ends ⊥ real.fits (replying real.world rs) a.goal (real.answer a) (real.inside a v rs)
 
   next_longer : spec.refusal a ≡ None → (rs : List Request) (c : Option ℕ) → (spec.part a rs).unread ≡ [] → (spec.part a rs).rest ≡ More → Longer (spec.part a rs) (spec.part a (rs ++ request.Next c ∷ []))
   next_longer v rs c u s =
       let e : replies (rs ++ request.Next c ∷ []) ≡ replies rs = filter_map-append reply rs (request.Next c ∷ []) ∙ append-nil (replies rs) in
-      let q : spec.part a (rs ++ request.Next c ∷ []) ≡ part_of real.size (stops real.fits (replying real.world rs) a.goal a.template) (real.chunk a) [] (rs ++ request.Next c ∷ []) =
-      as_part (rs ++ request.Next c ∷ []) ∙ ap (λ l. part_of real.size (stops real.fits (record real.world { replies = l }) a.goal a.template) (real.chunk a) [] (rs ++ request.Next c ∷ [])) e in
+      let q : spec.part a (rs ++ request.Next c ∷ []) ≡ part_of (real.style a) (stops real.fits (replying real.world rs) a.goal (real.answer a)) (real.chunk a) [] (rs ++ request.Next c ∷ []) =
+      as_part (rs ++ request.Next c ∷ []) ∙ ap (λ l. part_of (real.style a) (stops real.fits (record real.world { replies = l }) a.goal (real.answer a)) (real.chunk a) [] (rs ++ request.Next c ∷ [])) e in
       subst (λ (x : Part). Longer (spec.part a rs) x) (sym q)
-      (subst (λ (x : Part). x.unread ≡ [] → x.rest ≡ More → Longer x (part_of real.size (stops real.fits (replying real.world rs) a.goal a.template) (real.chunk a) [] (rs ++ request.Next c ∷ []))) (sym (as_part rs))
-      (next_moves real.size c (stops real.fits (replying real.world rs) a.goal a.template) (real.chunk a) [] rs (all_well v rs)) u s)
+      (subst (λ (x : Part). x.unread ≡ [] → x.rest ≡ More → Longer x (part_of (real.style a) (stops real.fits (replying real.world rs) a.goal (real.answer a)) (real.chunk a) [] (rs ++ request.Next c ∷ []))) (sym (as_part rs))
+      (next_moves (real.style a) c (stops real.fits (replying real.world rs) a.goal (real.answer a)) (real.chunk a) [] rs (all_well v rs)) u s)
 
   respond_longer : spec.refusal a ≡ None → (rs : List Request) (t : Tree) → (spec.part a rs).unread ≡ [] → (spec.part a rs).rest ≡ Prompting → Longer (spec.part a rs) (spec.part a (rs ++ request.Respond t ∷ []))
   respond_longer v rs t u s =
-      let h : Begins (stops real.fits (replying real.world rs) a.goal a.template) (stops real.fits (replying real.world (rs ++ request.Respond t ∷ [])) a.goal a.template) = stops_longer real.world real.fits a.goal a.template rs (request.Respond t ∷ []) in
-      let q : spec.part a (rs ++ request.Respond t ∷ []) ≡ part_of real.size (stops real.fits (replying real.world rs) a.goal a.template ++ h.0) (real.chunk a) [] (rs ++ request.Respond t ∷ []) =
-      as_part (rs ++ request.Respond t ∷ []) ∙ ap (λ l. part_of real.size l (real.chunk a) [] (rs ++ request.Respond t ∷ [])) h.1 in
+      let h : Begins (stops real.fits (replying real.world rs) a.goal (real.answer a)) (stops real.fits (replying real.world (rs ++ request.Respond t ∷ [])) a.goal (real.answer a)) = stops_longer real.world real.fits a.goal (real.answer a) rs (request.Respond t ∷ []) in
+      let q : spec.part a (rs ++ request.Respond t ∷ []) ≡ part_of (real.style a) (stops real.fits (replying real.world rs) a.goal (real.answer a) ++ h.0) (real.chunk a) [] (rs ++ request.Respond t ∷ []) =
+      as_part (rs ++ request.Respond t ∷ []) ∙ ap (λ l. part_of (real.style a) l (real.chunk a) [] (rs ++ request.Respond t ∷ [])) h.1 in
       let n : count (rs ++ request.Respond t ∷ []) ≡ suc (count rs) = ap (λ (l : List Tree). length l) (filter_map-append reply rs (request.Respond t ∷ [])) ∙ length-append (replies rs) (t ∷ []) ∙ add_one (count rs) in
-      let m : HasEnd ⊥ (stops real.fits (replying real.world rs) a.goal a.template ++ h.0) (suc (count rs)) =
-      subst (λ (k : ℕ). HasEnd ⊥ (stops real.fits (replying real.world rs) a.goal a.template ++ h.0) k) n (subst (λ l. HasEnd ⊥ l (count (rs ++ request.Respond t ∷ []))) h.1 (all_well v (rs ++ request.Respond t ∷ []))) in
+      let m : HasEnd ⊥ (stops real.fits (replying real.world rs) a.goal (real.answer a) ++ h.0) (suc (count rs)) =
+      subst (λ (k : ℕ). HasEnd ⊥ (stops real.fits (replying real.world rs) a.goal (real.answer a) ++ h.0) k) n (subst (λ l. HasEnd ⊥ l (count (rs ++ request.Respond t ∷ []))) h.1 (all_well v (rs ++ request.Respond t ∷ []))) in
       subst (λ (x : Part). Longer (spec.part a rs) x) (sym q)
-      (subst (λ (x : Part). x.unread ≡ [] → x.rest ≡ Prompting → Longer x (part_of real.size (stops real.fits (replying real.world rs) a.goal a.template ++ h.0) (real.chunk a) [] (rs ++ request.Respond t ∷ []))) (sym (as_part rs))
-      (resp_moves real.size t (stops real.fits (replying real.world rs) a.goal a.template) h.0 (real.chunk a) [] rs (all_well v rs) m) u s)
+      (subst (λ (x : Part). x.unread ≡ [] → x.rest ≡ Prompting → Longer x (part_of (real.style a) (stops real.fits (replying real.world rs) a.goal (real.answer a) ++ h.0) (real.chunk a) [] (rs ++ request.Respond t ∷ []))) (sym (as_part rs))
+      (resp_moves (real.style a) t (stops real.fits (replying real.world rs) a.goal (real.answer a)) h.0 (real.chunk a) [] rs (all_well v rs) m) u s)
     where
       add_one : (k : ℕ) → k + 1 ≡ suc k
       add_one k = omega arith
 
   first_event : spec.refusal a ≡ None → (0 < length (spec.part a []).events) × ((spec.part a []).unread ≡ [])
-  first_event v = subst (λ (x : Part). (0 < length x.events) × (x.unread ≡ [])) (sym (as_part [])) (fresh real.size (stops real.fits (replying real.world []) a.goal a.template) 0 (all_well v []) (real.chunk a) [])
+  first_event v = subst (λ (x : Part). (0 < length x.events) × (x.unread ≡ [])) (sym (as_part [])) (fresh (real.style a) (stops real.fits (replying real.world []) a.goal (real.answer a)) 0 (all_well v []) (real.chunk a) [])
 
   -- fitting requests are all read
   fitting_used : {rs : List Request} → Fitting spec a rs → (spec.refusal a ≡ None) × ((spec.part a rs).unread ≡ [])
@@ -66,4 +66,4 @@ resolution_lively spec real = record {
 }
 
 pub schedule_doesnt_matter : ScheduleDoesntMatter
-schedule_doesnt_matter spec real budget es l = schedule spec (resolution_lively spec real) budget es l
+schedule_doesnt_matter spec real es l = schedule spec (resolution_lively spec real) es l

@@ -12,7 +12,7 @@ use Rattle.event_core.specs.Requests.{kind_of}
 use Rattle.event_core.specs.Full.{Spec, Query, part_of, events_of, span}
 use Rattle.session.specs.After as state
 use Rattle.session.specs.After.{State, Idle, Running, Ended, Pengine, waiting, emits, ends, begins, fits, first_consumed, consumes_now, settled, Entry, Sent, Pulled, Abort, Destroy, Taken, Given, rest_at, advances, turned_at, aborted_at, destroyed_at, struck, handed_out, entered, after_entry, after, made, most_waiting}
-use Rattle.session.specs.Legal.{IsRunning, TurnsAt, IsAllowed, IsLegal}
+use Rattle.session.specs.Legal.{IsRunning, TurnsAt, IsAllowed, ArePossible}
 use Rattle.session.specs.Laws.{NoMoreWait}
 
 -- how many events may wait
@@ -169,28 +169,28 @@ take_room (state.More q) n m l a k = absurd l
 take_room (state.Prompting q) n m l a k = absurd l
 take_room Ended n m l a k = absurd l
 
-pull_room : (s : State) (t : Option ℕ) (n m : ℕ) → RoomAt s t n m → RoomAt s t n (suc m)
-pull_room Idle t n m h = h
-pull_room (Running q) (Some room) n m h = omega (arith, h)
-pull_room (Running q) None n m h = tt
-pull_room (state.More q) t n m h = h
-pull_room (state.Prompting q) t n m h = h
-pull_room Ended t n m h = h
+pull_room : (s : State) (t : Option ℕ) (n m j : ℕ) → RoomAt s t n m → RoomAt s t n (m + j)
+pull_room Idle t n m j h = h
+pull_room (Running q) (Some room) n m j h = omega (arith, h)
+pull_room (Running q) None n m j h = tt
+pull_room (state.More q) t n m j h = h
+pull_room (state.Prompting q) t n m j h = h
+pull_room Ended t n m j h = h
 
 entry_roomy : (spec : Spec) (budget : ℕ) (e : Entry) (p : Pengine) → IsAllowed spec budget e p → Roomy p → Roomy (entered spec e p)
 entry_roomy spec budget (Sent r) p l h = record { pulled = h.pulled; queue = h.queue; box = (let k : length (p.mailbox ++ r ∷ []) ≡ length p.mailbox + 1 = length-append p.mailbox (r ∷ []) in omega (arith, k, l.1)); turn = h.turn }
-entry_roomy spec budget Pulled p l h = record { pulled = omega (arith, l); queue = omega (arith, h.queue); box = h.box; turn = pull_room p.state p.turn _ _ h.turn }
+entry_roomy spec budget (Pulled m) p l h = record { pulled = l.1; queue = omega (arith, h.queue); box = h.box; turn = pull_room p.state p.turn (length p.emitted) p.pulled m h.turn }
 entry_roomy spec budget Abort p l h = abort_roomy spec p.state p h
 entry_roomy spec budget Destroy p l h = destroy_roomy p.state p
 entry_roomy spec budget Taken p l h = record { pulled = h.pulled; queue = h.queue; box = h.box; turn = take_room p.state (length p.emitted) p.pulled l.0 h.pulled l.2 }
 entry_roomy spec budget (Given k n e starved false) p l h = record { pulled = h.pulled; queue = h.queue; box = h.box; turn = h.turn }
 entry_roomy spec budget (Given k n e starved true) p l h = turn_roomy spec budget n e starved p.state p.turn p l.1 h
 
--- For every legal list of entries at most 64 requests stand in the mailbox, and at most 66 events wait: 64 in a query, 65 after it.
-pub roomy : (spec : Spec) (budget : ℕ) (es : List Entry) (p : Pengine) → IsLegal spec budget es p → Roomy p → Roomy (after spec es p)
-unfolding after IsLegal
-roomy spec budget [] p l h = h
-roomy spec budget (e ∷ es) p l h = roomy spec budget es (after_entry spec e p) l.1 (settle_roomy spec (length (entered spec e p).mailbox) (entered spec e p) (entry_roomy spec budget e p l.0 h))
+-- For every list of entries that a pengine can have at most 64 requests stand in the mailbox, and at most 66 events wait: 64 in a query, 65 after it.
+pub roomy : (spec : Spec) (es : List Entry) (p : Pengine) → ArePossible spec es p → Roomy p → Roomy (after spec es p)
+unfolding after ArePossible
+roomy spec [] p l h = h
+roomy spec (e ∷ es) p l h = roomy spec es (after_entry spec e p) l.1 (settle_roomy spec (length (entered spec e p).mailbox) (entered spec e p) (entry_roomy spec l.0.0 e p l.0.1 h))
 
 pub made_roomy : Roomy made
 made_roomy = record { pulled = omega arith; queue = omega arith; box = omega arith; turn = refl }
@@ -203,7 +203,7 @@ places_most (state.Prompting q) = omega arith
 places_most Ended = omega arith
 
 pub no_more_wait : NoMoreWait
-no_more_wait spec budget es l =
-    let h : Roomy (after spec es made) = roomy spec budget es made l made_roomy in
+no_more_wait spec es l =
+    let h : Roomy (after spec es made) = roomy spec es made l made_roomy in
     let m : places (after spec es made).state ≤ 66 = places_most (after spec es made).state in
     record { mailbox = h.box; queue = omega (arith, h.queue, m) }

@@ -23,10 +23,10 @@ abbrev three : List (ℕ × Stop)
 three = (2, Found (of_p (codes "a")) true) ∷ (3, Found (of_p (codes "b")) true) ∷ (4, Found (of_p (codes "c")) false) ∷ []
 
 abbrev over_stops : Bool → List (ℕ × Stop) → Spec
-over_stops d ps = record { destroys = d; refusal = λ a. None; part = λ a rs. part_of (λ t. 1) ps 1 [] rs }
+over_stops d ps = record { destroys = d; refusal = λ a. None; part = λ a rs. part_of (record { size = λ t. 1; names = None }) ps 1 [] rs }
 
 abbrev ask : Request
-ask = Ask (record { goal = of_p (codes "a"); template = of_p (codes "a"); chunk = 0; bytes = 0 })
+ask = Ask (record { goal = of_p (codes "a"); template = of_p (codes "a"); names = []; chunk = 0; bytes = 0 })
 
 unfoldable opened : Unit {0}
 unfolding part_of part_step full_from reads settled after acts
@@ -34,17 +34,17 @@ opened = tt
 
 -- an abort while a turn is out: the turn is dropped
 abbrev aborted : List Entry
-aborted = Sent ask ∷ Taken ∷ Abort ∷ Given 1 2 1 false false ∷ Pulled ∷ Sent ask ∷ Taken ∷ Given 2 2 1 false true ∷ []
+aborted = Sent ask ∷ Taken ∷ Abort ∷ Given 1 2 1 false false ∷ Pulled 1 ∷ Sent ask ∷ Taken ∷ Given 2 2 1 false true ∷ []
 
 aborted_acts : acts (over_stops false three) aborted made ≡ Sends ask ∷ Struck ByAbort 1 0 0 ∷ Sends ask ∷ []
 unfolding opened
 aborted_acts = refl
 
-aborted_emits : (after (over_stops false three) aborted made).emitted ≡ Create ∷ event.Abort ∷ Success (of_p (codes "a") ∷ []) true ∷ []
+aborted_emits : (after (over_stops false three) aborted made).emitted ≡ Create ∷ event.Abort ∷ Success (of_p (codes "a") ∷ []) None true ∷ []
 unfolding opened
 aborted_emits = refl
 
-aborted_full : full (over_stops false three) (acts (over_stops false three) aborted made) ≡ Create ∷ event.Abort ∷ Success (of_p (codes "a") ∷ []) true ∷ []
+aborted_full : full (over_stops false three) (acts (over_stops false three) aborted made) ≡ Create ∷ event.Abort ∷ Success (of_p (codes "a") ∷ []) None true ∷ []
 unfolding opened
 aborted_full = refl
 
@@ -59,7 +59,7 @@ aborted_legal = (
       (
         inl refl,
         (
-          omega arith,
+          (omega arith, omega arith),
           (
             (tt, omega arith),
             (
@@ -88,7 +88,7 @@ aborted_legal = (
   ),
 )
   where
-    early : (k : ℕ) (d : ℕ × Event) → k < 1 → (get_or ((2, Success (of_p (codes "a") ∷ []) true) ∷ []) k d).0 ≤ 2
+    early : (k : ℕ) (d : ℕ × Event) → k < 1 → (get_or ((2, Success (of_p (codes "a") ∷ []) None true) ∷ []) k d).0 ≤ 2
     early zero d h = omega arith
     early (suc k) d h = absurd (omega (arith, h))
 
@@ -100,7 +100,7 @@ starved_acts : acts (over_stops false three) starved made ≡ Sends ask ∷ Send
 unfolding opened
 starved_acts = refl
 
-starved_emits : (after (over_stops false three) starved made).emitted ≡ Create ∷ Success (of_p (codes "a") ∷ []) true ∷ event.Memory ∷ event.Destroy ∷ []
+starved_emits : (after (over_stops false three) starved made).emitted ≡ Create ∷ Success (of_p (codes "a") ∷ []) None true ∷ event.Memory ∷ event.Destroy ∷ []
 unfolding opened
 starved_emits = refl
 
@@ -108,7 +108,7 @@ starved_emits = refl
 abbrev stopped : List Entry
 stopped = Sent ask ∷ Sent ask ∷ Taken ∷ Given 1 2 1 false true ∷ Sent Stops ∷ []
 
-stopped_emits : (after (over_stops true three) stopped made).emitted ≡ Create ∷ Success (of_p (codes "a") ∷ []) true ∷ event.Protocol kind.Ask ∷ event.Stop ∷ event.Destroy ∷ []
+stopped_emits : (after (over_stops true three) stopped made).emitted ≡ Create ∷ Success (of_p (codes "a") ∷ []) None true ∷ event.Protocol kind.Ask ∷ event.Stop ∷ event.Destroy ∷ []
 unfolding opened
 stopped_emits = refl
 

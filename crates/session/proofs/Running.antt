@@ -11,9 +11,10 @@ use Rattle.event_core.specs.declared.rest.Rest.{Rest}
 use Rattle.event_core.specs.Parts.{Part}
 use Rattle.event_core.specs.Laws.{StaysInside, replying}
 use Rattle.event_core.specs.Reaching.{IsBegun, IsWhole}
-use Rattle.event_core.specs.Standing.{chunk_of}
+use Rattle.event_core.specs.Standing.{chunk_of, style_of}
 use Rattle.event_core.specs.Texts.{quoted}
-use Rattle.event_core.specs.Fits.{fits, text_size}
+use Rattle.event_core.specs.Fits.{fits}
+use Rattle.event_core.specs.Names.{answer_term}
 use Rattle.event_core.proofs.Rising.{steps_never_fall}
 use Rattle.session.specs.Turns.{last_step, IsFull, Turned, Turns}
 use Rattle.session.specs.Views.{Gone, TurnView}
@@ -24,7 +25,7 @@ use Rattle.session.proofs.Turning.{Rises, rises, Reached, cut_from_part, in_reac
 up : (t : TurnView) → Rises (part_seen t).events
 up t =
     rises (part_seen t).events
-    (steps_never_fall (world_of t.clauses [] t.settings.limit) (fits quoted) (text_size quoted) t.query.asked.goal t.query.asked.template (chunk_of t.settings t.query.asked) t.query.requests)
+    (steps_never_fall (world_of t.program [] t.settings.limit) (fits quoted) (style_of t.settings t.query.asked) t.query.asked.goal (answer_term t.settings.names t.query.asked) (chunk_of t.settings t.query.asked) t.query.requests)
 
 is_some_if : {A : Type 0} (b : Bool) (x : A) (o : Option A) → o ≡ (if b then Some x else None) → is_some o ≡ b
 is_some_if true x o e = ap is_some e
@@ -37,7 +38,7 @@ none_if false o e = refl
 module _ (t : TurnView) (g : Gone) (b reaches : ℕ) (L : List (ℕ × Event)) (rest : Option Rest)
     (some : 0 < b) (room : 0 < t.room) (most : reaches ≤ t.steps + b) (all_steps : reaches < t.settings.limit → reaches ≡ t.steps + b)
     (known : MatchOption rest ((reaches < t.settings.limit) × IsBegun reaches L (part_seen t).events) (λ x. IsWhole (part_seen t) L x))
-    (left : rest ≡ None → StaysInside (replying (world_of t.clauses [] t.settings.limit) t.query.requests) t.query.asked.goal t.query.asked.template → length L < length (part_seen t).events)
+    (left : rest ≡ None → StaysInside (replying (world_of t.program [] t.settings.limit) t.query.requests) t.query.asked.goal (answer_term t.settings.names t.query.asked) → length L < length (part_seen t).events)
     (in_time : All (λ x. x.0 ≤ min reaches t.settings.limit) L)
     (events_are : g.events ≡ take t.room (drop t.events L)) (rest_is : g.rest ≡ (if (t.events + length g.events) == length L then rest else None)) where
   abbrev E : List (ℕ × Event)
@@ -131,13 +132,14 @@ module _ (t : TurnView) (g : Gone) (b reaches : ℕ) (L : List (ℕ × Event)) (
       turned = by full refl
 
   -- what is known of it
-  pub gone : t.steps + g.steps < 2 ^ 64 → t.events + length g.events < 2 ^ 64 → IsGone t g
-  gone steps events = record {
+  pub gone : Starts t → g.starved ≡ false → Turned (part_seen t) t.steps t.events b t.room g.steps (length g.events) → t.steps + g.steps < 2 ^ 64 → t.events + length g.events < 2 ^ 64 → IsGone t g
+  gone s ample turns steps events = record {
     steps = steps;
     events = events;
     room = let k : M ≤ t.room = cut_room in omega (arith, k, made_is);
-    made = λ s. made s;
-    rest = λ s f. rest_told s;
+    made = made s;
+    rest = λ f. rest_told s;
+    turned = (b, subst (λ c. Turns (part_seen t) t.steps t.events b t.room g.steps (length g.events) c) (sym ample) turns);
   }
     where
       cut_room : M ≤ t.room
@@ -147,20 +149,21 @@ module _ (t : TurnView) (g : Gone) (b reaches : ℕ) (L : List (ℕ × Event)) (
 abbrev pub starved : Gone
 starved = record { steps = 0; events = []; starved = true; rest = None }
 
-pub starved_gone : (t : TurnView) → t.steps < 2 ^ 64 → t.events < 2 ^ 64 → IsGone t starved
-starved_gone t steps events = record {
+pub starved_turns : (t : TurnView) (b : ℕ) → 0 < t.room → Starts t → Turns (part_seen t) t.steps t.events b t.room 0 0 true
+starved_turns t b room s = starved_at_start (part_seen t) t.steps t.events b t.room room s.more s.later
+
+pub starved_gone : (t : TurnView) → 0 < t.room → Starts t → t.steps < 2 ^ 64 → t.events < 2 ^ 64 → IsGone t starved
+starved_gone t some s steps events = record {
   steps = (let i : t.steps + 0 ≡ t.steps = omega arith in omega (arith, steps, i));
   events = (let i : t.events + 0 ≡ t.events = omega arith in omega (arith, events, i));
   room = omega arith;
-  made = λ s. sym (drop-take t.events 0 (part_seen t).events);
-  rest = λ s f. absurd (differ f);
+  made = sym (drop-take t.events 0 (part_seen t).events);
+  rest = λ f. absurd (differ f);
+  turned = (0, starved_turns t 0 some s);
 }
   where
     differ : true ≡ false → ⊥
     differ e = cc
-
-pub starved_turns : (t : TurnView) (b : ℕ) → 0 < t.room → Starts t → Turns (part_seen t) t.steps t.events b t.room 0 0 true
-starved_turns t b room s = starved_at_start (part_seen t) t.steps t.events b t.room room s.more s.later
 
 -- what a turn has made isn't nothing
 pub moves : (p : Part) (n e b r : ℕ) (g : Gone) (steps events : ℕ) → steps ≡ g.steps → events ≡ (if g.starved then length g.events + 1 else length g.events) → Turns p n e b r g.steps (length g.events) g.starved → (0 < steps) ⊎ (0 < events)

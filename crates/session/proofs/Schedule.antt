@@ -16,7 +16,7 @@ use Rattle.event_core.specs.Laws.{Begins}
 use Rattle.event_core.proofs.Parts.{begins_trans}
 use Rattle.session.specs.After as state
 use Rattle.session.specs.After.{without, State, Idle, Running, Ended, Pengine, waiting, emits, ends, begins, fits, first_consumed, consumes_now, settled, Entry, Sent, Pulled, Abort, Destroy, Taken, Given, rest_at, advances, turned_at, aborted_at, destroyed_at, struck, handed_out, entered, after_entry, after, made, most_waiting}
-use Rattle.session.specs.Legal.{IsRunning, IsLive, TurnsAt, IsAllowed, IsLegal, act_of, acts}
+use Rattle.session.specs.Legal.{IsRunning, IsLive, TurnsAt, IsAllowed, ArePossible, act_of, acts}
 use Rattle.session.specs.Laws.{IsStill, Gives}
 use Rattle.event_core.proofs.Reading.{reads_all_grows, reads_append, reads_one, reads_none, reads_closed, gives_some, gives_whole, Rests, all_stays, stays, Below, gives_on, all_on, gives_grows}
 
@@ -127,7 +127,7 @@ asked_stands spec law a p t (Some e) w = ends_stands spec spec.destroys (emits (
 fitted_as : (spec : Spec) (q : Query) (g : ℕ) (r : Request) (es : List Event) (w : Rest) → (part_of spec q).rest ≡ w → consumes_at spec r (In q g) es ≡ fitted spec q g r (fit w r) es
 fitted_as spec q g r es w h = ap (λ x. fitted spec q g r (fit x r) es) h
 
-fits_stands : (spec : Spec) → Lively spec → (s : State) (r : Request) (p : Pengine) → consumes_now s ≡ true → SoundAt spec s p.events → TurnAt s p.turn → Stands spec p.mailbox p.consumed (fits spec s r (record p { state = s })) (consumes_at spec r (place_at s p.events) p.emitted)
+pub fits_stands : (spec : Spec) → Lively spec → (s : State) (r : Request) (p : Pengine) → consumes_now s ≡ true → SoundAt spec s p.events → TurnAt s p.turn → Stands spec p.mailbox p.consumed (fits spec s r (record p { state = s })) (consumes_at spec r (place_at s p.events) p.emitted)
 fits_stands spec law Idle (request.Ask a) p i s t = asked_stands spec law a p t (spec.refusal a) refl
 fits_stands spec law Idle (request.Next c) p i s t = idle_stands spec (emits (event.Protocol (kind_of (request.Next c))) p) t
 fits_stands spec law Idle request.Stop p i s t = idle_stands spec (emits (event.Protocol (kind_of request.Stop)) p) t
@@ -148,7 +148,7 @@ fits_stands spec law (state.Prompting q) (request.Respond x) p i s t =
 fits_stands spec law Ended r p i s t = cc
 
 -- where the pengine rests, the query has given all
-rests_here : (spec : Spec) (s : State) (e : ℕ) (es : List Event) → consumes_now s ≡ true → SoundAt spec s e → gives_all_at spec (place_at s e) es ≡ at (place_at s e) es
+pub rests_here : (spec : Spec) (s : State) (e : ℕ) (es : List Event) → consumes_now s ≡ true → SoundAt spec s e → gives_all_at spec (place_at s e) es ≡ at (place_at s e) es
 rests_here spec Idle e es i s = refl
 rests_here spec (Running q) e es i s = cc
 rests_here spec (state.More q) e es i s = subst (λ (k : ℕ). gives_all_at spec (In q k) es ≡ at (In q k) es) s.1 (all_stays spec q es (subst Rests (sym s.2) tt))
@@ -191,7 +191,7 @@ first_agrees spec law rs c x p h i (r ∷ ms) e =
           (fits_stands spec law p.state r (record p { mailbox = ms; consumed = suc p.consumed }) i h.stands.sound h.stands.turn);
     }
 
-settle_agrees : (spec : Spec) → Lively spec → (n : ℕ) (rs : List Request) (c : ℕ) (x : Reading) (p : Pengine) → Agrees spec rs c x p → Agrees spec rs c x (settled spec n p)
+pub settle_agrees : (spec : Spec) → Lively spec → (n : ℕ) (rs : List Request) (c : ℕ) (x : Reading) (p : Pengine) → Agrees spec rs c x p → Agrees spec rs c x (settled spec n p)
 unfolding settled
 settle_agrees spec law zero rs c x p h = h
 settle_agrees spec law (suc n) rs c x p h = go (settle_agrees spec law n rs c x (first_consumed spec p.mailbox p)) (consumes_now p.state) refl (nat_lt (waiting p) most_waiting)
@@ -356,7 +356,7 @@ take_turn Ended t h = absurd h
 lost : (spec : Spec) (k : ℕ) (rs : List Request) (n : ℕ) (p : Pengine) (y : Reading) → Stands spec rs n p y → Stands spec rs n (record p { lost = without k p.lost }) y
 lost spec k rs n p y v = record { here = v.here; below = v.below; sound = v.sound; turn = v.turn; dropped = v.dropped; split = v.split; only_ended = v.only_ended; count = v.count }
 
-turn : (spec : Spec) (budget n e : ℕ) (rs : List Request) (m : ℕ) (p : Pengine) (y : Reading) (s : State) (t : Option ℕ) → TurnsAt spec budget s t p n e false → Stands spec rs m (record p { state = s }) y → Stands spec rs m (turned_at spec n e false s (record p { state = s; turn = None })) y
+pub turn : (spec : Spec) (budget n e : ℕ) (rs : List Request) (m : ℕ) (p : Pengine) (y : Reading) (s : State) (t : Option ℕ) → TurnsAt spec budget s t p n e false → Stands spec rs m (record p { state = s }) y → Stands spec rs m (turned_at spec n e false s (record p { state = s; turn = None })) y
 turn spec budget n e rs m p y (Running q) (Some room) l h = turn_stands spec q rs m (p.steps + n) (p.events + e) p y h (omega arith) l.within
 turn spec budget n e rs m p y Idle t l h = absurd l
 turn spec budget n e rs m p y (Running q) None l h = absurd l
@@ -376,7 +376,7 @@ starve spec budget n e rs c x p h (state.More q) t l v = absurd l
 starve spec budget n e rs c x p h (state.Prompting q) t l v = absurd l
 starve spec budget n e rs c x p h Ended t l v = absurd l
 
-entry_enters : (spec : Spec) (budget : ℕ) (e : Entry) (p : Pengine) (rs : List Request) (c : ℕ) (x : Reading) → IsAllowed spec budget e p → Agrees spec rs c x p → Enters spec e p rs c x
+pub entry_enters : (spec : Spec) (budget : ℕ) (e : Entry) (p : Pengine) (rs : List Request) (c : ℕ) (x : Reading) → IsAllowed spec budget e p → Agrees spec rs c x p → Enters spec e p rs c x
 unfolding full_from
 entry_enters spec budget (Sent r) p rs c x l h = record {
   still = rs ++ r ∷ [];
@@ -390,7 +390,7 @@ entry_enters spec budget (Sent r) p rs c x l h = record {
     stands = send_stands spec h.later (c + length h.before) r p.state p (reads spec h.before x) l.0 h.stands;
   };
 }
-entry_enters spec budget Pulled p rs c x l h = record {
+entry_enters spec budget (Pulled m) p rs c x l h = record {
   still = rs;
   done = c;
   reading = x;
@@ -398,7 +398,7 @@ entry_enters spec budget Pulled p rs c x l h = record {
   agrees = record { before = h.before; later = h.later; split = h.split; stands = same h.stands };
 }
   where
-    same : (v : Stands spec h.later (c + length h.before) p (reads spec h.before x)) → Stands spec h.later (c + length h.before) (record p { pulled = suc p.pulled }) (reads spec h.before x)
+    same : (v : Stands spec h.later (c + length h.before) p (reads spec h.before x)) → Stands spec h.later (c + length h.before) (record p { pulled = p.pulled + m }) (reads spec h.before x)
     same v = record { here = v.here; below = v.below; sound = v.sound; turn = v.turn; dropped = v.dropped; split = v.split; only_ended = v.only_ended; count = v.count }
 entry_enters spec budget Abort p rs c x l h = record {
   still = [];
@@ -481,19 +481,19 @@ now_all spec rs c x p h i m =
     go y (state.More q) ds o i s a g = rw (o, reads_none) (ap (λ (z : Reading). z.emitted) (sym a ∙ ap (gives_all spec) g ∙ rests_here spec (state.More q) p.events p.emitted refl s))
     go y (state.Prompting q) ds o i s a g = rw (o, reads_none) (ap (λ (z : Reading). z.emitted) (sym a ∙ ap (gives_all spec) g ∙ rests_here spec (state.Prompting q) p.events p.emitted refl s))
 
-schedule_from : (spec : Spec) → Lively spec → (budget : ℕ) (es : List Entry) (rs : List Request) (c : ℕ) (x : Reading) (p : Pengine) → IsLegal spec budget es p → Agrees spec rs c x p → Gives (after spec es p) (full_from spec (acts spec es p) rs c x)
-unfolding full_from after acts IsLegal
-schedule_from spec law budget [] rs c x p l h = record { begins = now_begins spec rs c x p h; whole = λ i m. now_all spec rs c x p h i m }
-schedule_from spec law budget (e ∷ es) rs c x p l h =
-    let t : Enters spec e p rs c x = entry_enters spec budget e p rs c x l.0 h in
+schedule_from : (spec : Spec) → Lively spec → (es : List Entry) (rs : List Request) (c : ℕ) (x : Reading) (p : Pengine) → ArePossible spec es p → Agrees spec rs c x p → Gives (after spec es p) (full_from spec (acts spec es p) rs c x)
+unfolding full_from after acts ArePossible
+schedule_from spec law [] rs c x p l h = record { begins = now_begins spec rs c x p h; whole = λ i m. now_all spec rs c x p h i m }
+schedule_from spec law (e ∷ es) rs c x p l h =
+    let t : Enters spec e p rs c x = entry_enters spec l.0.0 e p rs c x l.0.1 h in
     let q : Pengine = entered spec e p in
     rw (t.read (acts spec es (after_entry spec e p)))
-    (schedule_from spec law budget es t.still t.done t.reading (after_entry spec e p) l.1 (settle_agrees spec law (length q.mailbox) t.still t.done t.reading q t.agrees))
+    (schedule_from spec law es t.still t.done t.reading (after_entry spec e p) l.1 (settle_agrees spec law (length q.mailbox) t.still t.done t.reading q t.agrees))
 
-made_agrees : (spec : Spec) → Agrees spec [] 0 (at Free (event.Create ∷ [])) made
+pub made_agrees : (spec : Spec) → Agrees spec [] 0 (at Free (event.Create ∷ [])) made
 unfolding reads
 made_agrees spec = record { before = []; later = []; split = refl; stands = record { here = refl; below = tt; sound = tt; turn = refl; dropped = []; split = refl; only_ended = refl; count = refl } }
 
--- For every legal list of entries, the events emitted begin the list that resolution defines for its acts, and are all of it where the pengine doesn't run and its mailbox is empty.
-pub schedule : (spec : Spec) → Lively spec → (budget : ℕ) (es : List Entry) → IsLegal spec budget es made → Gives (after spec es made) (full spec (acts spec es made))
-schedule spec law budget es l = schedule_from spec law budget es [] 0 (at Free (event.Create ∷ [])) made l (made_agrees spec)
+-- For every list of entries that a pengine can have, the events emitted begin the list that resolution defines for its acts, and are all of it where the pengine doesn't run and its mailbox is empty.
+pub schedule : (spec : Spec) → Lively spec → (es : List Entry) → ArePossible spec es made → Gives (after spec es made) (full spec (acts spec es made))
+schedule spec law es l = schedule_from spec law es [] 0 (at Free (event.Create ∷ [])) made l (made_agrees spec)

@@ -1,7 +1,7 @@
 -- What the code does to a pengine, and what the definition does, look the same.
-use Rattle.std.proofs.Common.{◌≡◌, ◌≢◌, ℕ, zero, suc, ◌+◌, ◌-◌, ◌≤◌, ◌<◌, ◌^◌, min, Bool, true, false, ◌&&◌, List, [], ◌∷◌, ◌++◌, map, length, drop, slice_get, nat_lt, nat_le, if◌then◌else◌, Option, Some, None, All, refl, ap, sym, subst, ◌∙◌, append_assoc, append-nil, length-append, IsTrue, arith}
+use Rattle.std.proofs.Common.{◌≡◌, ◌≢◌, ℕ, zero, suc, ◌+◌, ◌-◌, ◌≤◌, ◌<◌, ◌^◌, min, Bool, true, false, ◌&&◌, List, [], ◌∷◌, ◌++◌, map, length, take, drop, slice_get, nat_lt, nat_le, if◌then◌else◌, Option, Some, None, All, refl, ap, sym, subst, ◌∙◌, append_assoc, append-nil, length-append, length-take, IsTrue, arith}
 use Rattle.std.proofs.Math.Seq.{drop-append_seam}
-use Rattle.std.proofs.lemmas.List.{map-append, length-map}
+use Rattle.std.proofs.lemmas.List.{map-append, length-map, take-append-drop}
 use Rattle.std.proofs.lemmas.List.Elements.{All-push, All-nil, All-rest, All-head, All-drop}
 use Rattle.std.proofs.lemmas.Bool.{ltb-true, lt-ltb}
 use Rattle.circular_buffer.specs.Buffer.{buffer}
@@ -16,7 +16,7 @@ use Rattle.event_core.specs.declared.request.Request.TheVariants as request
 use Rattle.event_core.specs.declared.rest.Rest.{Rest}
 use Rattle.event_core.specs.declared.rest.Rest.TheVariants as rest
 use Rattle.event_core.specs.Requests.{kind_of, fit}
-use Rattle.program.specs.Clauses.{Clause}
+use Rattle.program.specs.Loaded.{Loaded}
 use Rattle.event_core.specs.declared.settings.Settings.{Settings}
 use Rattle.event_core.specs.Standing.{spec_of}
 use Rattle.event_core.specs.Full.{Spec, Query, part_of, events_of, span}
@@ -30,9 +30,9 @@ use Rattle.session.specs.After as state
 use Rattle.session.specs.After.{State, Pengine, waiting, emits, ends, begins, fits, first_consumed, consumes_now, settled, aborted_at, destroyed_at, handed_out, rest_at, advances, turned_at, struck, most_waiting, after_entry, after, made, Entry, without, Sent, Pulled, Abort, Taken, Given, Destroy}
 use Rattle.session.specs.Views.{Look, Idle, Running, Out, More, Prompting, Ended, View, IsLook, IsKept, IsSeen, spec_seen, Does, Enters, out, taken}
 use Rattle.event_core.specs.declared.spec.Spec as wanted
-use Rattle.session.specs.Begun.{settings_of, first_of, IsBegun}
+use Rattle.session.specs.Begun.{first_of, IsBegun}
 use Rattle.session.specs.Answers.{is_turn, takes, takes_at, last_of}
-use Rattle.session.specs.Kept.{query_of, look_of, requests_of, view_of, resting, rests, rests_now, is_busy, MayWait, further_of, Refuses, IsLetter, IsSound, IsBack, Tells, Turns, says, closed}
+use Rattle.session.specs.Kept.{query_of, look_of, requests_of, view_of, resting, rests, rests_now, is_busy, MayWait, further_of, Refuses, IsLetter, IsSound, IsBack, Tells, TakesBack, says, closed}
 
 -- one event more
 pub said : (v : View) (p : Pengine) (e : Event) → IsKept v p → IsKept (record v { queue = v.queue ++ e ∷ [] }) (emits e p)
@@ -105,7 +105,7 @@ closed_sound true a h = record {
   count = omega (arith, h.count);
   bound = h.bound;
   letters = All-nil (IsLetter a.program.value a.settings);
-  clauses = tt;
+  program = tt;
 }
 closed_sound false a h = record {
   queue_room = h.queue_room;
@@ -115,7 +115,7 @@ closed_sound false a h = record {
   count = omega (arith, h.count);
   bound = h.bound;
   letters = h.letters;
-  clauses = tt;
+  program = tt;
 }
 
 -- A query begins
@@ -208,9 +208,9 @@ misfit_seen rest.Prompting q e a p l h = record { look = l; kept = moved (view_o
 misfit_seen rest.Over q e a p l h = record { look = l; kept = moved (view_of (says e a)) (emits e p) Idle p.state p.turn (said (view_of a) p e h) }
 
 pub rests_sound : (k : Rest) (q : kept.Query) (a : Automaton) → IsFair a → length a.queue.items ≤ 64 → a.number + length q.requests + length a.mailbox.items ≤ a.accepted → q.program.value ≡ a.program.value → IsSound (record a { state = rests k q })
-rests_sound rest.More q a h w n c = record { queue_room = h.queue_room; mailbox_room = h.mailbox_room; waits = w; box = h.box; count = n; bound = h.bound; letters = h.letters; clauses = c }
-rests_sound rest.Prompting q a h w n c = record { queue_room = h.queue_room; mailbox_room = h.mailbox_room; waits = w; box = h.box; count = n; bound = h.bound; letters = h.letters; clauses = c }
-rests_sound rest.Over q a h w n c = record { queue_room = h.queue_room; mailbox_room = h.mailbox_room; waits = h.waits; box = h.box; count = omega (arith, h.count); bound = h.bound; letters = h.letters; clauses = tt }
+rests_sound rest.More q a h w n c = record { queue_room = h.queue_room; mailbox_room = h.mailbox_room; waits = w; box = h.box; count = n; bound = h.bound; letters = h.letters; program = c }
+rests_sound rest.Prompting q a h w n c = record { queue_room = h.queue_room; mailbox_room = h.mailbox_room; waits = w; box = h.box; count = n; bound = h.bound; letters = h.letters; program = c }
+rests_sound rest.Over q a h w n c = record { queue_room = h.queue_room; mailbox_room = h.mailbox_room; waits = h.waits; box = h.box; count = omega (arith, h.count); bound = h.bound; letters = h.letters; program = tt }
 
 -- Requests are consumed
 
@@ -294,7 +294,7 @@ still spec n p e = stays spec n p (ap (λ b. b && nat_lt (waiting p) most_waitin
 is_taken : (v : View) (l : Look) → v.look ≡ l → IsTrue (is_turn (takes_at v l)) → Does (after_entry (spec_seen v) Taken) v (record v { look = out l (most_waiting - length v.queue) })
 is_taken v Idle e h = cc
 is_taken v (Running q) e h = record {
-  clauses = refl;
+  program = refl;
   settings = refl;
   seen = λ p s.
       let l : IsLook (Running q) p.state p.turn = subst (λ z. IsLook z p.state p.turn) e s.look in
@@ -357,7 +357,7 @@ sent_sound a l h r b k =
       count = omega (arith, m, h.count);
       bound = omega (arith, b);
       letters = All-push (IsLetter a.program.value a.settings) a.mailbox.items l h.letters k;
-      clauses = h.clauses;
+      program = h.program;
     }
 
 -- A turn is kept
@@ -385,7 +385,7 @@ gave_kept spec q g a p t h =
 
 -- What the calls of the code do
 
-closed_clauses : (b : Bool) (a : Automaton) → (view_of (closed b a)).clauses ≡ a.program.value
+closed_clauses : (b : Bool) (a : Automaton) → (view_of (closed b a)).program ≡ a.program.value
 closed_clauses true a = refl
 closed_clauses false a = refl
 
@@ -398,7 +398,7 @@ idle_turn s t o e l = subst (λ z. IsLook (look_of z) t o) e l
 
 pub refused_does : (a : Automaton) (ask : Ask) (t : Tree) → a.state ≡ at.Idle → Does (begins (spec_seen (view_of a)) ask (Some t)) (view_of a) (view_of (closed a.settings.destroys (says (event.Error t) (counted a))))
 refused_does a ask t e = record {
-  clauses = closed_clauses a.settings.destroys (says (event.Error t) (counted a));
+  program = closed_clauses a.settings.destroys (says (event.Error t) (counted a));
   settings = closed_settings a.settings.destroys (says (event.Error t) (counted a));
   seen = λ p h. refused_seen (spec_seen (view_of a)) ask t a p (idle_turn a.state p.state p.turn e h.look).1 h.kept;
 }
@@ -411,7 +411,7 @@ further_of_not (request.Respond x) n = tt
 
 pub other_does : (a : Automaton) (r : Request) → a.state ≡ at.Idle → IsFurther r → Does (λ p. fits (spec_seen (view_of a)) p.state r p) (view_of a) (view_of (says (event.Protocol (kind_of r)) a))
 other_does a r e f = record {
-  clauses = refl;
+  program = refl;
   settings = refl;
   seen = λ p h.
       let i : (p.state ≡ state.Idle) × (p.turn ≡ None) = idle_turn a.state p.state p.turn e h.look in
@@ -428,7 +428,7 @@ says_sound e a h i r = record {
   count = h.count;
   bound = h.bound;
   letters = h.letters;
-  clauses = h.clauses;
+  program = h.program;
 }
 
 pub says_fair : (e : Event) (a : Automaton) → IsSound a → length a.queue.items ≤ 64 → IsFair (says e a)
@@ -449,7 +449,7 @@ rested a l p h = moved (record (view_of a) { look = l }) p (look_of a.state) p.s
 pub stops_does : (a : Automaton) (k : Rest) (q : kept.Query) (r : Request) → k ≢ rest.Over → fit k r ≡ Stops →
     Does (λ p. fits (spec_seen (view_of a)) p.state r p) (record (view_of a) { look = resting k (query_of q) }) (view_of (closed a.settings.destroys (says event.Stop a)))
 stops_does a k q r n e = record {
-  clauses = closed_clauses a.settings.destroys (says event.Stop a);
+  program = closed_clauses a.settings.destroys (says event.Stop a);
   settings = closed_settings a.settings.destroys (says event.Stop a);
   seen = λ p h.
       subst (λ (z : Pengine). IsSeen (view_of (closed a.settings.destroys (says event.Stop a))) z)
@@ -460,7 +460,7 @@ stops_does a k q r n e = record {
 pub misfit_does : (a : Automaton) (k : Rest) (q : kept.Query) (r : Request) → k ≢ rest.Over → fit k r ≡ Misfit →
     Does (λ p. fits (spec_seen (view_of a)) p.state r p) (record (view_of a) { look = resting k (query_of q) }) (view_of (record (says (event.Protocol (kind_of r)) a) { state = rests k q }))
 misfit_does a k q r n e = record {
-  clauses = refl;
+  program = refl;
   settings = refl;
   seen = λ p h.
       subst (λ (z : Pengine). IsSeen (view_of (record (says (event.Protocol (kind_of r)) a) { state = rests k q })) z)
@@ -576,7 +576,7 @@ advanced_count a q g h b =
     omega (arith, c, b.requests)
 
 pub running_sound : (q : kept.Query) (a : Automaton) → IsFair a → length a.queue.items ≤ 64 → a.number + length q.requests + length a.mailbox.items ≤ a.accepted → q.program.value ≡ a.program.value → IsSound (record a { state = at.Running q })
-running_sound q a h w n c = record { queue_room = h.queue_room; mailbox_room = h.mailbox_room; waits = w; box = h.box; count = n; bound = h.bound; letters = h.letters; clauses = c }
+running_sound q a h w n c = record { queue_room = h.queue_room; mailbox_room = h.mailbox_room; waits = w; box = h.box; count = n; bound = h.bound; letters = h.letters; program = c }
 
 turned_is : (spec : Spec) (q : Query) (g : kept_turn.Gone) (s : State) (p : Pengine) → s ≡ state.Running q → turned_at spec g.steps (length g.events) g.starved s p ≡ advances spec q (p.steps + g.steps) (p.events + length g.events) g.starved p
 turned_is spec q g s p e = ap (λ z. turned_at spec g.steps (length g.events) g.starved z p) e
@@ -584,9 +584,9 @@ turned_is spec q g s p e = ap (λ z. turned_at spec g.steps (length g.events) g.
 back_kept : (a : Automaton) (p : Pengine) → IsKept (view_of a) p → IsKept (view_of a) (record p { turn = None })
 back_kept a p h = moved (view_of a) p (look_of a.state) p.state None h
 
-pub starved_turns : (a : Automaton) (q : kept.Query) (g : kept_turn.Gone) → g.starved ≡ true → Turns q g (view_of a) (view_of (closed a.settings.destroys (says event.Memory (advanced g a))))
+pub starved_turns : (a : Automaton) (q : kept.Query) (g : kept_turn.Gone) → g.starved ≡ true → TakesBack q g (view_of a) (view_of (closed a.settings.destroys (says event.Memory (advanced g a))))
 starved_turns a q g e = record {
-  clauses = closed_clauses a.settings.destroys (says event.Memory (advanced g a));
+  program = closed_clauses a.settings.destroys (says event.Memory (advanced g a));
   settings = closed_settings a.settings.destroys (says event.Memory (advanced g a));
   seen = λ p s t h.
       let spec : Spec = spec_seen (view_of a) in
@@ -627,33 +627,33 @@ module _ (a : Automaton) (q : kept.Query) (g : kept_turn.Gone) (f : g.starved �
   back_seen : (p : Pengine) → Tells (spec_seen (view_of a)) (query_of q) a.events g → IsSeen (view_of a) p → IsKept (view_of (advanced g a)) (back p)
   back_seen p t h = gave_kept (spec_seen (view_of a)) (query_of q) g a (record p { turn = None }) t (back_kept a p h.kept)
 
-  pub runs_on : g.rest ≡ None → Turns q g (view_of a) (view_of (record (advanced g a) { state = at.Running q }))
+  pub runs_on : g.rest ≡ None → TakesBack q g (view_of a) (view_of (record (advanced g a) { state = at.Running q }))
   runs_on e = record {
-    clauses = refl;
+    program = refl;
     settings = refl;
     seen = λ p s t h. subst (λ (z : Pengine). IsSeen (view_of (record (advanced g a) { state = at.Running q })) z) (sym (fed None e p s t h))
         (record { look = (s, refl); kept = moved (view_of (advanced g a)) (back p) (Running (query_of q)) p.state None (back_seen p t h) });
   }
 
-  pub rests_more : g.rest ≡ Some rest.More → Turns q g (view_of a) (view_of (record (advanced g a) { state = at.More q }))
+  pub rests_more : g.rest ≡ Some rest.More → TakesBack q g (view_of a) (view_of (record (advanced g a) { state = at.More q }))
   rests_more e = record {
-    clauses = refl;
+    program = refl;
     settings = refl;
     seen = λ p s t h. subst (λ (z : Pengine). IsSeen (view_of (record (advanced g a) { state = at.More q })) z) (sym (fed (Some rest.More) e p s t h))
         (record { look = (refl, refl); kept = moved (view_of (advanced g a)) (back p) (More (query_of q)) (state.More (query_of q)) None (back_seen p t h) });
   }
 
-  pub rests_prompting : g.rest ≡ Some rest.Prompting → Turns q g (view_of a) (view_of (record (advanced g a) { state = at.Prompting q }))
+  pub rests_prompting : g.rest ≡ Some rest.Prompting → TakesBack q g (view_of a) (view_of (record (advanced g a) { state = at.Prompting q }))
   rests_prompting e = record {
-    clauses = refl;
+    program = refl;
     settings = refl;
     seen = λ p s t h. subst (λ (z : Pengine). IsSeen (view_of (record (advanced g a) { state = at.Prompting q })) z) (sym (fed (Some rest.Prompting) e p s t h))
         (record { look = (refl, refl); kept = moved (view_of (advanced g a)) (back p) (Prompting (query_of q)) (state.Prompting (query_of q)) None (back_seen p t h) });
   }
 
-  pub over : g.rest ≡ Some rest.Over → Turns q g (view_of a) (view_of (closed a.settings.destroys (advanced g a)))
+  pub over : g.rest ≡ Some rest.Over → TakesBack q g (view_of a) (view_of (closed a.settings.destroys (advanced g a)))
   over e = record {
-    clauses = closed_clauses a.settings.destroys (advanced g a);
+    program = closed_clauses a.settings.destroys (advanced g a);
     settings = closed_settings a.settings.destroys (advanced g a);
     seen = λ p s t h. subst (λ (z : Pengine). IsSeen (view_of (closed a.settings.destroys (advanced g a))) z) (sym (fed (Some rest.Over) e p s t h))
         (closed_seen a.settings.destroys (advanced g a) (back p) refl (back_seen p t h));
@@ -661,24 +661,47 @@ module _ (a : Automaton) (q : kept.Query) (g : kept_turn.Gone) (f : g.starved �
 
 -- Whole entries: what one does first, and then what is consumed
 
-pub same_spec : (cs ds : List Clause) (s t : Settings) → cs ≡ ds → s ≡ t → spec_of cs s ≡ spec_of ds t
+pub same_spec : (cs ds : Loaded) (s t : Settings) → cs ≡ ds → s ≡ t → spec_of cs s ≡ spec_of ds t
 same_spec cs ds s t e f = ap (λ z. spec_of z s) e ∙ ap (λ z. spec_of ds z) f
 
 abbrev pub Settles : View → View → Type 0
 Settles v w = Does (λ p. settled (spec_seen v) (length p.mailbox) p) v w
 
 pub sent_does : (a : Automaton) (l : Letter) (n : ℕ) (w : View) → Settles (view_of (record a { mailbox = buffer (a.mailbox.items ++ l ∷ []) a.mailbox.capacity; accepted = n })) w → Enters (Sent l.node) (view_of a) w
-sent_does a l n w d = record { clauses = d.clauses; settings = d.settings; seen = λ p h. d.seen (record p { mailbox = p.mailbox ++ l.node ∷ [] }) (sent_seen a l n p h) }
+sent_does a l n w d = record { program = d.program; settings = d.settings; seen = λ p h. d.seen (record p { mailbox = p.mailbox ++ l.node ∷ [] }) (sent_seen a l n p h) }
 
-pub pulled_does : (a : Automaton) (e : Event) (es : List Event) (w : View) → a.queue.items ≡ e ∷ es → Settles (view_of (record a { queue = buffer es a.queue.capacity; pulled = min (a.pulled + 1) (2 ^ 64 - 1) })) w → Enters Pulled (view_of a) w
-pulled_does a e es w i d = record { clauses = d.clauses; settings = d.settings; seen = λ p h. d.seen (record p { pulled = suc p.pulled }) (pulled_seen a e es p i h) }
+one_more : (k : ℕ) → suc k ≡ k + 1
+one_more k = omega arith
+
+pub pulled_does : (a : Automaton) (e : Event) (es : List Event) (w : View) → a.queue.items ≡ e ∷ es → Settles (view_of (record a { queue = buffer es a.queue.capacity; pulled = min (a.pulled + 1) (2 ^ 64 - 1) })) w → Enters (Pulled 1) (view_of a) w
+pulled_does a e es w i d = record { program = d.program; settings = d.settings; seen = λ p h. subst (λ (k : ℕ). IsSeen w (settled (spec_seen (view_of a)) (length p.mailbox) (record p { pulled = k }))) (one_more p.pulled) (d.seen (record p { pulled = suc p.pulled }) (pulled_seen a e es p i h)) }
+
+-- several events are pulled together
+pulled_many_seen : (a : Automaton) (k : ℕ) (p : Pengine) → k ≤ length a.queue.items → IsSeen (view_of a) p → IsSeen (view_of (record a { queue = buffer (drop k a.queue.items) a.queue.capacity; pulled = min (a.pulled + k) (2 ^ 64 - 1) })) (record p { pulled = p.pulled + k })
+pulled_many_seen a k p l h = record {
+  look = h.look;
+  kept = record {
+    mailbox = h.kept.mailbox;
+    number = h.kept.number;
+    steps = h.kept.steps;
+    events = h.kept.events;
+    pulled = (let m : a.pulled ≡ min p.pulled (2 ^ 64 - 1) = h.kept.pulled in omega (arith, m));
+    before = h.kept.before ++ take k a.queue.items;
+    handed = (let m : length (h.kept.before ++ take k a.queue.items) ≡ length h.kept.before + length (take k a.queue.items) = length-append h.kept.before (take k a.queue.items) in
+        let n : length (take k a.queue.items) ≡ min k (length a.queue.items) = length-take k a.queue.items in omega (arith, m, n, l, h.kept.handed));
+    emitted = h.kept.emitted ∙ ap (λ (x : List Event). h.kept.before ++ x) (sym (take-append-drop k a.queue.items)) ∙ sym (append_assoc h.kept.before (take k a.queue.items) (drop k a.queue.items));
+  };
+}
+
+pub pulled_many_does : (a : Automaton) (k : ℕ) (w : View) → k ≤ length a.queue.items → Settles (view_of (record a { queue = buffer (drop k a.queue.items) a.queue.capacity; pulled = min (a.pulled + k) (2 ^ 64 - 1) })) w → Enters (Pulled k) (view_of a) w
+pulled_many_does a k w l d = record { program = d.program; settings = d.settings; seen = λ p h. d.seen (record p { pulled = p.pulled + k }) (pulled_many_seen a k p l h) }
 
 abbrev pub cleared : Automaton → Automaton
 cleared a = record a { mailbox = buffer [] a.mailbox.capacity }
 
 pub busy_breaks : (a : Automaton) → is_busy a.state ≡ true → Does (λ p. aborted_at (spec_seen (view_of a)) p.state (struck p)) (view_of a) (view_of (closed a.settings.destroys (says event.Abort (record (cleared a) { state = at.Idle }))))
 busy_breaks a b = record {
-  clauses = closed_clauses a.settings.destroys (says event.Abort (record (cleared a) { state = at.Idle }));
+  program = closed_clauses a.settings.destroys (says event.Abort (record (cleared a) { state = at.Idle }));
   settings = closed_settings a.settings.destroys (says event.Abort (record (cleared a) { state = at.Idle }));
   seen = λ p h.
       let k : IsKept (view_of (record (cleared a) { state = at.Idle })) (struck p) = moved (view_of (cleared a)) (struck p) Idle p.state None (struck_kept a p h.kept) in
@@ -698,26 +721,26 @@ outside spec at.Ended t o p b l = (ap (λ z. aborted_at spec z p) l.0, (l.0, ref
 
 pub idle_breaks : (a : Automaton) → is_busy a.state ≡ false → Does (λ p. aborted_at (spec_seen (view_of a)) p.state (struck p)) (view_of a) (view_of (cleared a))
 idle_breaks a b = record {
-  clauses = refl;
+  program = refl;
   settings = refl;
   seen = λ p h.
       let o : (aborted_at (spec_seen (view_of a)) p.state (struck p) ≡ struck p) × IsLook (look_of a.state) p.state None = outside (spec_seen (view_of a)) a.state p.state p.turn (struck p) b h.look in
       subst (λ (z : Pengine). IsSeen (view_of (cleared a)) z) (sym o.0) (record { look = o.1; kept = struck_kept a p h.kept });
 }
 
-pub then_settles : (v w x : View) (q : Pengine) → w.clauses ≡ v.clauses → w.settings ≡ v.settings → Settles w x → IsSeen w q → IsSeen x (settled (spec_seen v) (length q.mailbox) q)
-then_settles v w x q c s d h = subst (λ (z : Spec). IsSeen x (settled z (length q.mailbox) q)) (same_spec w.clauses v.clauses w.settings v.settings c s) (d.seen q h)
+pub then_settles : (v w x : View) (q : Pengine) → w.program ≡ v.program → w.settings ≡ v.settings → Settles w x → IsSeen w q → IsSeen x (settled (spec_seen v) (length q.mailbox) q)
+then_settles v w x q c s d h = subst (λ (z : Spec). IsSeen x (settled z (length q.mailbox) q)) (same_spec w.program v.program w.settings v.settings c s) (d.seen q h)
 
 pub aborts : (v w x : View) → Does (λ p. aborted_at (spec_seen v) p.state (struck p)) v w → Settles w x → Enters Abort v x
 aborts v w x d k = record {
-  clauses = k.clauses ∙ d.clauses;
+  program = k.program ∙ d.program;
   settings = k.settings ∙ d.settings;
-  seen = λ p h. then_settles v w x (aborted_at (spec_seen v) p.state (struck p)) d.clauses d.settings k (d.seen p h);
+  seen = λ p h. then_settles v w x (aborted_at (spec_seen v) p.state (struck p)) d.program d.settings k (d.seen p h);
 }
 
 -- a turn that is dropped only leaves those that are lost
 pub dropped_does : (v w : View) (k n e : ℕ) (b : Bool) → Settles v w → Enters (Given k n e b false) v w
-dropped_does v w k n e b d = record { clauses = d.clauses; settings = d.settings; seen = λ p h. d.seen (record p { lost = without k p.lost }) (record { look = h.look; kept = moved_lost p h }) }
+dropped_does v w k n e b d = record { program = d.program; settings = d.settings; seen = λ p h. d.seen (record p { lost = without k p.lost }) (record { look = h.look; kept = moved_lost p h }) }
   where
     moved_lost : (p : Pengine) → IsSeen v p → IsKept v (record p { lost = without k p.lost })
     moved_lost p h = record { mailbox = h.kept.mailbox; number = h.kept.number; steps = h.kept.steps; events = h.kept.events; pulled = h.kept.pulled; before = h.kept.before; handed = h.kept.handed; emitted = h.kept.emitted }
@@ -733,7 +756,7 @@ opened_sound a l ls e h =
       count = omega (arith, k, h.count);
       bound = h.bound;
       letters = All-rest (IsLetter a.program.value a.settings) l ls a.mailbox.items e h.letters;
-      clauses = h.clauses;
+      program = h.program;
     }
 
 pub opened_count : (a : Automaton) (l : Letter) (ls : List Letter) → a.mailbox.items ≡ l ∷ ls → IsSound a → a.number + further_of a.state + length ls < a.accepted
@@ -747,7 +770,7 @@ opened_letter a l ls e h = All-head (IsLetter a.program.value a.settings) l ls (
 pub consumed_does : (a : Automaton) (l : Letter) (ls : List Letter) (w : View) → a.mailbox.items ≡ l ∷ ls →
     Does (λ p. fits (spec_seen (view_of a)) p.state l.node p) (view_of (record a { mailbox = buffer ls a.mailbox.capacity })) w → Does (λ p. first_consumed (spec_seen (view_of a)) p.mailbox p) (view_of a) w
 consumed_does a l ls w e d = record {
-  clauses = d.clauses;
+  program = d.program;
   settings = d.settings;
   seen = λ p h. subst (λ (z : Pengine). IsSeen w z) (sym (opened (spec_seen (view_of a)) a l ls p e h)) (d.seen (record p { mailbox = requests_of ls; consumed = suc p.consumed }) (opened_seen a l ls p e h));
 }
@@ -757,7 +780,7 @@ none_left ls e = subst (λ (z : List Letter). drop 1 z ≡ []) (sym e) refl
 
 pub empty_does : (a : Automaton) → a.mailbox.items ≡ [] → Does (λ p. first_consumed (spec_seen (view_of a)) p.mailbox p) (view_of a) (view_of (record a { mailbox = buffer (drop 1 a.mailbox.items) a.mailbox.capacity }))
 empty_does a e = record {
-  clauses = refl;
+  program = refl;
   settings = refl;
   seen = λ p h. subst (λ (z : Pengine). IsSeen (view_of (record a { mailbox = buffer (drop 1 a.mailbox.items) a.mailbox.capacity })) z) (sym (emptied (spec_seen (view_of a)) a p e h))
       (record {
@@ -786,15 +809,15 @@ empty_sound a e h =
       count = omega (arith, k, h.count);
       bound = h.bound;
       letters = All-drop (IsLetter a.program.value a.settings) 1 a.mailbox.items h.letters;
-      clauses = h.clauses;
+      program = h.program;
     }
 
 -- one request of those that are to be consumed
-pub step_on : (v : View) (n m k : ℕ) (p : Pengine) (a b : Automaton) → a.program.value ≡ v.clauses → a.settings ≡ v.settings → Settling (spec_seen v) n p a m → m ≡ suc k → IsTrue (rests_now a.state) → length a.queue.items < 64 →
+pub step_on : (v : View) (n m k : ℕ) (p : Pengine) (a b : Automaton) → a.program.value ≡ v.program → a.settings ≡ v.settings → Settling (spec_seen v) n p a m → m ≡ suc k → IsTrue (rests_now a.state) → length a.queue.items < 64 →
     Does (λ q. first_consumed (spec_seen (view_of a)) q.mailbox q) (view_of a) (view_of b) → Settling (spec_seen v) n p b k
 step_on v n m k p a b c s h e r l d = record {
   next = first_consumed (spec_seen v) h.next.mailbox h.next;
-  seen = subst (λ (z : Spec). IsSeen (view_of b) (first_consumed z h.next.mailbox h.next)) (same_spec a.program.value v.clauses a.settings v.settings c s) (d.seen h.next h.seen);
+  seen = subst (λ (z : Spec). IsSeen (view_of b) (first_consumed z h.next.mailbox h.next)) (same_spec a.program.value v.program a.settings v.settings c s) (d.seen h.next h.seen);
   same = h.same ∙ ap (λ z. settled (spec_seen v) z h.next) e ∙ goes (spec_seen v) k h.next (may_go a h.next h.seen r l);
 }
 
@@ -808,21 +831,21 @@ after_one : (spec : Spec) (e : Entry) (p : Pengine) → after spec (e ∷ []) p 
 unfolding after
 after_one spec e p = refl
 
-pub begun_none : (s : wanted.Spec) (a : Automaton) → a.program.value ≡ s.program.value → a.settings ≡ settings_of s → IsSeen (view_of a) made → s.ask ≡ None → IsBegun s (view_of a)
+pub begun_none : (s : wanted.Spec) (a : Automaton) → a.program.value ≡ s.program.value → a.settings ≡ s.settings → IsSeen (view_of a) made → s.ask ≡ None → IsBegun s (view_of a)
 begun_none s a c t h n = record {
-  clauses = c;
+  program = c;
   settings = t;
-  seen = subst (λ o. IsSeen (view_of a) (after (spec_of s.program.value (settings_of s)) (first_of o) made)) (sym n)
-      (subst (λ (z : Pengine). IsSeen (view_of a) z) (sym (after_none (spec_of s.program.value (settings_of s)) made)) h);
+  seen = subst (λ o. IsSeen (view_of a) (after (spec_of s.program.value s.settings) (first_of o) made)) (sym n)
+      (subst (λ (z : Pengine). IsSeen (view_of a) z) (sym (after_none (spec_of s.program.value s.settings) made)) h);
 }
 
-pub begun_asked : (s : wanted.Spec) (x : Ask) (a b : Automaton) → a.program.value ≡ s.program.value → a.settings ≡ settings_of s → IsSeen (view_of a) made → s.ask ≡ Some x → Enters (Sent (request.Ask x)) (view_of a) (view_of b) → IsBegun s (view_of b)
+pub begun_asked : (s : wanted.Spec) (x : Ask) (a b : Automaton) → a.program.value ≡ s.program.value → a.settings ≡ s.settings → IsSeen (view_of a) made → s.ask ≡ Some x → Enters (Sent (request.Ask x)) (view_of a) (view_of b) → IsBegun s (view_of b)
 begun_asked s x a b c t h i d = record {
-  clauses = d.clauses ∙ c;
+  program = d.program ∙ c;
   settings = d.settings ∙ t;
-  seen = subst (λ o. IsSeen (view_of b) (after (spec_of s.program.value (settings_of s)) (first_of o) made)) (sym i)
-      (subst (λ (z : Pengine). IsSeen (view_of b) z) (sym (after_one (spec_of s.program.value (settings_of s)) (Sent (request.Ask x)) made))
-      (subst (λ (z : Spec). IsSeen (view_of b) (after_entry z (Sent (request.Ask x)) made)) (same_spec a.program.value s.program.value a.settings (settings_of s) c t) (d.seen made h)));
+  seen = subst (λ o. IsSeen (view_of b) (after (spec_of s.program.value s.settings) (first_of o) made)) (sym i)
+      (subst (λ (z : Pengine). IsSeen (view_of b) z) (sym (after_one (spec_of s.program.value s.settings) (Sent (request.Ask x)) made))
+      (subst (λ (z : Spec). IsSeen (view_of b) (after_entry z (Sent (request.Ask x)) made)) (same_spec a.program.value s.program.value a.settings s.settings c t) (d.seen made h)));
 }
 
 pub refuses_ask : (spec : Spec) (r : Request) (a : Ask) (t : Option Tree) → r ≡ request.Ask a → t ≡ spec.refusal a → Refuses spec r t

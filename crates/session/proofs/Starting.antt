@@ -19,7 +19,7 @@ use Rattle.event_core.proofs.Longer.{requests_only_add}
 use Rattle.event_core.proofs.Rising.{steps_never_fall}
 use Rattle.session.specs.After as state
 use Rattle.session.specs.After.{State, Idle, Running, Ended, Pengine, waiting, emits, ends, begins, fits, first_consumed, consumes_now, settled, Entry, Sent, Pulled, Abort, Destroy, Taken, Given, rest_at, advances, turned_at, aborted_at, destroyed_at, struck, handed_out, entered, after_entry, after, made, most_waiting}
-use Rattle.session.specs.Legal.{TurnsAt, IsAllowed, IsLegal}
+use Rattle.session.specs.Legal.{TurnsAt, IsAllowed, IsLegal, ArePossible}
 use Rattle.session.specs.Turns.{last_step, Turned}
 use Rattle.session.specs.Laws.{IsResolution}
 use Rattle.session.proofs.Schedule.{Fitting, allowed, after_next, after_respond, Lively}
@@ -48,13 +48,13 @@ module _ (spec : Spec) (real : IsResolution spec) where
   up q =
       rises (events_of spec q)
       (subst (λ (p : Part). AllPairs (λ x y. x.0 ≤ y.0) p.events) (sym (real.is_part q.asked q.requests))
-      (steps_never_fall real.world real.fits real.size q.asked.goal q.asked.template (real.chunk q.asked) q.requests))
+      (steps_never_fall real.world real.fits (real.style q.asked) q.asked.goal (real.answer q.asked) (real.chunk q.asked) q.requests))
 
   further : (a : Ask) (rs more : List Request) → Begins (spec.part a rs).events (spec.part a (rs ++ more)).events
   further a rs more =
       subst (λ (p : Part). Begins p.events (spec.part a (rs ++ more)).events) (sym (real.is_part a rs))
-      (subst (λ (p : Part). Begins (part real.world real.fits real.size a.goal a.template (real.chunk a) rs).events p.events) (sym (real.is_part a (rs ++ more)))
-      (requests_only_add real.world real.fits real.size a.goal a.template (real.chunk a) rs more))
+      (subst (λ (p : Part). Begins (part real.world real.fits (real.style a) a.goal (real.answer a) (real.chunk a) rs).events p.events) (sym (real.is_part a (rs ++ more)))
+      (requests_only_add real.world real.fits (real.style a) a.goal (real.answer a) (real.chunk a) rs more))
 
   -- a query that runs, after n steps and e events
   pub record IsOn (q : Query) (n e : ℕ) : Type 0 where
@@ -206,19 +206,25 @@ module _ (spec : Spec) (real : IsResolution spec) where
 
   enters : (budget : ℕ) (e : Entry) (p : Pengine) → IsAllowed spec budget e p → Stands p → Stands (entered spec e p)
   enters budget (Sent r) p l h = h
-  enters budget Pulled p l h = h
+  enters budget (Pulled m) p l h = h
   enters budget Abort p l h = aborted p.state p h
   enters budget Destroy p l h = destroyed p.state p
   enters budget Taken p l h = h
   enters budget (Given k n e starved false) p l h = h
   enters budget (Given k n e starved true) p l h = kept budget n e starved p p.state p.turn l.1 h
 
-  all_stand : (budget : ℕ) (es : List Entry) (p : Pengine) → IsLegal spec budget es p → Stands p → Stands (after spec es p)
-  unfolding after IsLegal
-  all_stand budget [] p l h = h
-  all_stand budget (e ∷ es) p l h =
+  all_stand : (es : List Entry) (p : Pengine) → ArePossible spec es p → Stands p → Stands (after spec es p)
+  unfolding after ArePossible
+  all_stand [] p l h = h
+  all_stand (e ∷ es) p l h =
       let q : Pengine = entered spec e p in
-      all_stand budget es (after_entry spec e p) l.1 (settled_stands (length q.mailbox) q (enters budget e p l.0 h))
+      all_stand es (after_entry spec e p) l.1 (settled_stands (length q.mailbox) q (enters l.0.0 e p l.0.1 h))
 
-  pub running : (budget : ℕ) (es : List Entry) → IsLegal spec budget es made → (q : Query) → (after spec es made).state ≡ Running q → IsOn q (after spec es made).steps (after spec es made).events
-  running budget es l q e = subst (λ s. StandsAt s (after spec es made).steps (after spec es made).events) e (all_stand budget es made l tt)
+  pub running : (es : List Entry) → ArePossible spec es made → (q : Query) → (after spec es made).state ≡ Running q → IsOn q (after spec es made).steps (after spec es made).events
+  running es l q e = subst (λ s. StandsAt s (after spec es made).steps (after spec es made).events) e (all_stand es made l tt)
+
+-- a legal list is possible
+pub legal_possible : (spec : Spec) (budget : ℕ) (es : List Entry) (p : Pengine) → IsLegal spec budget es p → ArePossible spec es p
+unfolding IsLegal ArePossible
+legal_possible spec budget [] p l = tt
+legal_possible spec budget (e ∷ es) p l = ((budget, l.0), legal_possible spec budget es (after_entry spec e p) l.1)

@@ -96,10 +96,10 @@ settled spec (suc n) p = elim (consumes_now p.state && nat_lt (waiting p) most_w
   | false ↦ p
 ]
 
--- What is done to a pengine. In `Given` stand the number of the turn's query, the steps and the events that the turn made, and whether it ended by want of memory and whether it was kept.
+-- What is done to a pengine. In `Pulled` stands how many events were taken together. In `Given` stand the number of the turn's query, the steps and the events that the turn made, and whether it ended by want of memory and whether it was kept.
 pub data Entry : Type 0 where
   Sent : Request → Entry
-  Pulled : Entry
+  Pulled : (many : ℕ) → Entry
   Abort : Entry
   Destroy : Entry
   Taken : Entry
@@ -153,7 +153,7 @@ handed_out p = record p { pulled = length p.emitted }
 -- what one entry does, before requests are consumed
 abbrev pub entered : Spec → Entry → Pengine → Pengine
 entered spec (Sent r) p = record p { mailbox = p.mailbox ++ r ∷ [] }
-entered spec Pulled p = record p { pulled = suc p.pulled }
+entered spec (Pulled n) p = record p { pulled = p.pulled + n }
 entered spec Abort p = aborted_at spec p.state (struck p)
 entered spec Destroy p = handed_out (destroyed_at p.state (struck p))
 entered spec Taken p = record p { turn = Some (most_waiting - waiting p) }

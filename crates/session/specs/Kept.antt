@@ -2,7 +2,7 @@
 use Rattle.std.specs.Prelude.{◌≡◌, ℕ, ◌+◌, ◌^◌, ◌≤◌, ◌<◌, Bool, true, false, if◌then◌else◌, nat_le, take, drop, List, [], ◌∷◌, ◌++◌, map, length, Option, Some, None, All}
 use Rattle.circular_buffer.specs.Buffer.{buffer}
 use Rattle.term_core.specs.Tree.{Tree}
-use Rattle.program.specs.Clauses.{Clause}
+use Rattle.program.specs.Loaded.{Loaded}
 use Rattle.event_core.specs.declared.event.Event.{Event}
 use Rattle.event_core.specs.declared.event.Event.TheVariants as event
 use Rattle.event_core.specs.declared.request.Request.{Request}
@@ -38,7 +38,7 @@ requests_of ls = map (λ l. l.node) ls
 
 abbrev pub view_of : Automaton → View
 view_of a = record {
-  clauses = a.program.value;
+  program = a.program.value;
   settings = a.settings;
   look = look_of a.state;
   mailbox = requests_of a.mailbox.items;
@@ -60,7 +60,7 @@ abbrev pub Refuses : Spec → Request → Option Tree → Type 0
 Refuses spec (request.Ask a) t = t ≡ spec.refusal a
 Refuses spec r t = Unit {0}
 
-pub record IsLetter (cs : List Clause) (s : Settings) (l : Letter) : Type 0 where
+pub record IsLetter (cs : Loaded) (s : Settings) (l : Letter) : Type 0 where
   pub program : l.program.value ≡ cs
   pub refusal : Refuses (spec_of cs s) l.node l.refusal
 
@@ -105,8 +105,8 @@ further_of (state.More q) = length q.requests
 further_of (state.Prompting q) = length q.requests
 further_of state.Ended = 0
 
--- the query that is kept runs over these clauses
-abbrev pub IsOver : List Clause → State → Type 0
+-- the query that is kept runs over these program
+abbrev pub IsOver : Loaded → State → Type 0
 IsOver cs state.Idle = Unit {0}
 IsOver cs (state.Running q) = q.program.value ≡ cs
 IsOver cs (state.Out room further) = Unit {0}
@@ -123,7 +123,7 @@ pub record IsSound (a : Automaton) : Type 0 where
   pub count : a.number + further_of a.state + length a.mailbox.items ≤ a.accepted
   pub bound : a.accepted ≤ 2 ^ 62
   pub letters : All (IsLetter a.program.value a.settings) a.mailbox.items
-  pub clauses : IsOver a.program.value a.state
+  pub program : IsOver a.program.value a.state
 
 -- one event more waits
 abbrev pub says : Event → Automaton → Automaton
@@ -139,7 +139,7 @@ pub record IsBack (a : Automaton) (q : kept.Query) (g : kept_turn.Gone) : Type 0
   pub room : ℕ
   pub further : ℕ
   pub is_out : a.state ≡ state.Out room further
-  pub clauses : q.program.value ≡ a.program.value
+  pub program : q.program.value ≡ a.program.value
   pub requests : length q.requests ≡ further
   pub events : length g.events ≤ room
   pub steps_fit : a.steps + g.steps < 2 ^ 64
@@ -151,7 +151,7 @@ pub record Tells (spec : Spec) (q : Query) (k : ℕ) (g : kept_turn.Gone) : Type
   pub rest : g.starved ≡ false → g.rest ≡ (if nat_le (length (events_of spec q)) (k + length g.events) then Some (part_of spec q).rest else None)
 
 -- the turn was kept, before requests are consumed
-pub record Turns (q : kept.Query) (g : kept_turn.Gone) (v w : View) : Type 0 where
-  pub clauses : w.clauses ≡ v.clauses
+pub record TakesBack (q : kept.Query) (g : kept_turn.Gone) (v w : View) : Type 0 where
+  pub program : w.program ≡ v.program
   pub settings : w.settings ≡ v.settings
   pub seen : (p : Pengine) → p.state ≡ after.Running (query_of q) → Tells (spec_seen v) (query_of q) v.events g → IsSeen v p → IsSeen w (turned_at (spec_seen v) g.steps (length g.events) g.starved p.state (record p { turn = None }))

@@ -1,5 +1,5 @@
 -- Which lists of entries a pengine can have, and the acts that they stand for.
-use Rattle.std.specs.Prelude.{◌≡◌, ℕ, ◌+◌, ◌<◌, Bool, true, false, ◌⊎◌, List, [], ◌∷◌, length, Option, Some, None}
+use Rattle.std.specs.Prelude.{◌≡◌, ℕ, ◌+◌, ◌<◌, ◌≤◌, Bool, true, false, ◌⊎◌, List, [], ◌∷◌, length, Option, Some, None}
 use Rattle.event_core.specs.Full.{Spec, part_of, Act, Sends, Struck, ByAbort, ByDestroy, ByWant}
 use Rattle.session.specs.After.{most_waiting, most_requests, State, Running, Ended, Pengine, waiting, Entry, Sent, Pulled, Abort, Destroy, Taken, Given, after_entry}
 use Rattle.session.specs.Turns.{Turns}
@@ -22,10 +22,10 @@ unfoldable pub Holds : ℕ → List ℕ → Type 0
 Holds k [] = ⊥
 Holds k (n ∷ ns) = (n ≡ k) ⊎ Holds k ns
 
--- A request is accepted where the pengine hasn't ended and its mailbox isn't full; an event is pulled where one waits; a turn is taken where the query runs, none of its turns is out and the queue isn't full; a turn that is given back is dropped where its query was aborted, or the pengine destroyed, since it was taken, and kept otherwise.
+-- A request is accepted where the pengine hasn't ended and its mailbox isn't full; events are pulled where so many wait, at least one; a turn is taken where the query runs, none of its turns is out and the queue isn't full; a turn that is given back is dropped where its query was aborted, or the pengine destroyed, since it was taken, and kept otherwise.
 abbrev pub IsAllowed : Spec → ℕ → Entry → Pengine → Type 0
 IsAllowed spec budget (Sent r) p = IsLive p.state × (length p.mailbox < most_requests)
-IsAllowed spec budget Pulled p = p.pulled < length p.emitted
+IsAllowed spec budget (Pulled n) p = (0 < n) × (p.pulled + n ≤ length p.emitted)
 IsAllowed spec budget Abort p = Unit {0}
 IsAllowed spec budget Destroy p = Unit {0}
 IsAllowed spec budget Taken p = IsRunning p.state × (p.turn ≡ None) × (waiting p < most_waiting)
@@ -36,6 +36,11 @@ IsAllowed spec budget (Given k n e starved true) p = (k ≡ p.number) × TurnsAt
 unfoldable pub IsLegal : Spec → (budget : ℕ) → List Entry → Pengine → Type 0
 IsLegal spec budget [] p = Unit {0}
 IsLegal spec budget (e ∷ es) p = IsAllowed spec budget e p × IsLegal spec budget es (after_entry spec e p)
+
+-- The same where each turn has a budget of its own.
+unfoldable pub ArePossible : Spec → List Entry → Pengine → Type 0
+ArePossible spec [] p = Unit {0}
+ArePossible spec (e ∷ es) p = ((budget : ℕ) × IsAllowed spec budget e p) × ArePossible spec es (after_entry spec e p)
 
 -- An abort and a destroy strike with the steps and events that the latest query has after its last kept turn, a want of memory with those of the turn itself.
 abbrev pub act_of : Entry → Pengine → List Act → List Act

@@ -4,6 +4,9 @@ pub mod Begun
 pub mod Kept
 pub mod Laws
 pub mod Legal
+pub mod Recorded
+pub mod Resting
+pub mod Shows
 pub mod Turns
 pub mod TurnsKept
 pub mod Views

@@ -1,6 +1,6 @@
 -- What can be seen of a pengine from outside, and which pengines look so.
 use Rattle.std.specs.Prelude.{◌≡◌, ℕ, ◌^◌, ◌-◌, min, Bool, List, ◌++◌, length, Option, Some, None}
-use Rattle.program.specs.Clauses.{Clause}
+use Rattle.program.specs.Loaded.{Loaded}
 use Rattle.event_core.specs.declared.event.Event.{Event}
 use Rattle.event_core.specs.declared.request.Request.{Request}
 use Rattle.event_core.specs.declared.rest.Rest.{Rest}
@@ -20,7 +20,7 @@ pub data Look : Type 0 where
   Ended : Look
 
 pub record View : Type 0 where
-  pub clauses : List Clause
+  pub program : Loaded
   pub settings : Settings
   pub look : Look
   pub mailbox : List Request
@@ -33,7 +33,7 @@ pub record View : Type 0 where
   pub queue : List Event
 
 abbrev pub spec_seen : View → Spec
-spec_seen v = spec_of v.clauses v.settings
+spec_seen v = spec_of v.program v.settings
 
 -- where a pengine stands and whether a turn of its query is out
 abbrev pub IsLook : Look → State → Option ℕ → Type 0
@@ -60,9 +60,9 @@ pub record IsSeen (v : View) (p : Pengine) : Type 0 where
   pub look : IsLook v.look p.state p.turn
   pub kept : IsKept v p
 
--- What looked like v looks like w after f was done to it, and has the same clauses and settings.
+-- What looked like v looks like w after f was done to it, and has the same program and settings.
 pub record Does (f : Pengine → Pengine) (v w : View) : Type 0 where
-  pub clauses : w.clauses ≡ v.clauses
+  pub program : w.program ≡ v.program
   pub settings : w.settings ≡ v.settings
   pub seen : (p : Pengine) → IsSeen v p → IsSeen w (f p)
 
@@ -88,7 +88,7 @@ pub record Gone : Type 0 where
 
 -- A turn of a query: what it runs over, where it starts, and how many events it may make.
 pub record TurnView : Type 0 where
-  pub clauses : List Clause
+  pub program : Loaded
   pub settings : Settings
   pub query : Query
   pub number : ℕ
@@ -100,7 +100,7 @@ pub record TurnView : Type 0 where
 -- the turn that a view gives
 abbrev pub turn_at : View → Query → TurnView
 turn_at v q = record {
-  clauses = v.clauses;
+  program = v.program;
   settings = v.settings;
   query = q;
   number = v.number;
@@ -112,7 +112,7 @@ turn_at v q = record {
 
 -- the turn of the query that is out
 pub record IsPresent (v : View) (t : TurnView) (room further : ℕ) : Type 0 where
-  pub clauses : t.clauses ≡ v.clauses
+  pub program : t.program ≡ v.program
   pub settings : t.settings ≡ v.settings
   pub steps : t.steps ≡ v.steps
   pub events : t.events ≡ v.events

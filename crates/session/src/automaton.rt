@@ -1,22 +1,23 @@
 // A pengine as it is kept, entry by entry.
-ghost use Rattle.std.specs.Prelude.{◌≡◌, ◌≢◌, ◌+◌, ◌-◌, ◌<◌, ◌≤◌, ◌^◌, false, List as list, [], ◌∷◌, ◌++◌, map, length, Some, IfSome, IfNone, OnSome, IfOk, OnOk, OnErr, IsTrue, ◌↔◌};
+ghost use Rattle.std.specs.Prelude.{◌≡◌, ◌≢◌, min, take, drop, ◌+◌, ◌-◌, ◌<◌, ◌≤◌, ◌^◌, false, List as list, [], ◌∷◌, ◌++◌, map, length, Some, IfSome, IfNone, OnSome, IfOk, OnOk, OnErr, IsTrue, ◌↔◌};
 ghost use Rattle.event_core.specs.declared.event.Event.{Event};
 ghost use Rattle.event_core.specs.declared.rest.Rest.TheVariants as ending;
 ghost use Rattle.circular_buffer.specs.Buffer.{buffer};
 ghost use Rattle.session.specs.declared.state.State.TheVariants as at;
 ghost use Rattle.session.specs.declared.answers.Given.TheVariants as given;
-ghost use Rattle.session.specs.TurnsKept.{Keeps};
+ghost use Rattle.event_core.specs.Full as asked;
+ghost use Rattle.session.specs.TurnsKept.{Starts, Keeps};
 ghost use Rattle.session.specs.Views as view;
 ghost use Rattle.session.specs.After.{begins, fits, first_consumed, aborted_at, struck, settled, made, Sent, Pulled, Abort, Given as GivenBack};
 ghost use Rattle.session.specs.Answers.{is_ended, takes, is_turn, last_of, gives};
 ghost use Rattle.session.specs.Views.{spec_seen, turn_at, taken, IsSeen, Does, Enters, IsTurnOf};
-ghost use Rattle.session.specs.Kept.{query_of, look_of, view_of, resting, rests, rests_now, is_busy, further_of, IsLetter, IsSound, IsBack, Turns, says, closed};
+ghost use Rattle.session.specs.Kept.{query_of, look_of, view_of, resting, rests, rests_now, is_busy, further_of, IsLetter, IsSound, IsBack, TakesBack, says, closed};
 
 use crate::answers::Given;
 use crate::letter::Letter;
 use crate::node::Node;
 use crate::query::Query;
-use crate::ring::put;
+use crate::ring::{move_first, put};
 use crate::state::State;
 use crate::took::Took;
 use crate::turn::{Gone, Turn};
@@ -67,7 +68,7 @@ impl Automaton {
         settings: Settings,
     ) -> Result<Automaton, Memory>
         ensures sound { IfOk result IsSound }
-        ensures clauses { IfOk result (λ a. a.program.value ≡ program.value) }
+        ensures program { IfOk result (λ a. a.program.value ≡ program.value) }
         ensures settings { IfOk result (λ a. a.settings ≡ settings) }
         ensures mailbox { IfOk result (λ a. a.mailbox.items ≡ []) }
         ensures seen { IfOk result (λ a. IsSeen (view_of a) made) }
@@ -118,7 +119,7 @@ impl Automaton {
         requires room { length self.old.queue.items < 64 }
         requires counted { self.old.number + length self.old.mailbox.items < self.old.accepted }
         requires fresh { query.requests ≡ [] }
-        requires clauses { query.program.value ≡ self.old.program.value }
+        requires program { query.program.value ≡ self.old.program.value }
         ensures sound { IsSound self.new }
         ensures does { Does (begins (spec_seen (view_of self.old)) query.ask refusal) (view_of self.old) (view_of self.new) }
     {
@@ -170,7 +171,7 @@ impl Automaton {
         requires rests { rest ≢ ending.Over }
         requires room { length self.old.queue.items < 64 }
         requires counted { self.old.number + length query.requests + length self.old.mailbox.items < self.old.accepted }
-        requires clauses { query.program.value ≡ self.old.program.value }
+        requires program { query.program.value ≡ self.old.program.value }
         ensures sound { IsSound self.new }
         ensures does { Does (λ p. fits (spec_seen (view_of self.old)) p.state letter.node p) (record (view_of self.old) { look = resting rest (query_of query) }) (view_of self.new) }
     {
@@ -329,13 +330,36 @@ impl Automaton {
         ensures some { IfSome result (λ r. (r.0 ≡ self.old.pulled) × ((rest : list Event) × (self.old.queue.items ≡ r.1 ∷ rest))) }
         ensures none { IfNone result ((self.old.queue.items ≡ []) × (self.new ≡ self.old)) }
         ensures sound { IsSound self.new }
-        ensures does { OnSome result (Enters Pulled (view_of self.old) (view_of self.new)) }
+        ensures does { OnSome result (Enters (Pulled 1) (view_of self.old) (view_of self.new)) }
     {
         let event = self.queue.pop_front()?;
         let number = self.pulled;
         self.pulled = number.saturating_add(1);
         self.settle();
         Some((number, event))
+    }
+
+    // The events that wait are handed out together, at most so many; for want of memory the pengine is as before.
+    pub(crate) fn pull_many(&mut self, max: usize) -> Result<Option<Waiting>, Memory>
+        requires sound { IsSound self.old }
+        requires some { 0 < max }
+        requires most { max ≤ 64 }
+        ensures sound { IsSound self.new }
+        ensures some { IfOk result (λ o. IfSome o (λ w. (w.first ≡ self.old.pulled) × (w.events ≡ take max self.old.queue.items) × (self.old.queue.items ≢ []))) }
+        ensures none { IfOk result (λ o. IfNone o ((self.old.queue.items ≡ []) × (self.new ≡ self.old))) }
+        ensures does { IfOk result (λ o. OnSome o (Enters (Pulled (min max (length self.old.queue.items))) (view_of self.old) (view_of self.new))) }
+        ensures refused { OnErr result (self.new ≡ self.old) }
+    {
+        let mut events = HeapCircularBuffer::with_capacity(self.alloc, max)?;
+        if self.queue.is_empty() {
+            return Ok(None);
+        }
+        let first = self.pulled;
+        let many = max.min(self.queue.len());
+        move_first(many, &mut self.queue, &mut events);
+        self.pulled = first.saturating_add(many as u64);
+        self.settle();
+        Ok(Some(Waiting::new(first, events)))
     }
 
     // Accepts a request; for want of memory the pengine is as before.
@@ -357,7 +381,8 @@ impl Automaton {
     // The query is given to a turn, which may make as many events as there are places.
     fn hand_out(&mut self, query: Query) -> Turn
         requires room { length self.old.queue.items < 64 }
-        requires clauses { query.program.value ≡ self.old.program.value }
+        requires program { query.program.value ≡ self.old.program.value }
+        requires starts { Starts (turn_at (view_of self.old) (query_of query)) }
         ensures turn { result ≡ turn_at (view_of self.old) (query_of query) }
         ensures state { self.new ≡ record self.old { state = at.Out (64 - length self.old.queue.items) (length query.requests) } }
     {
@@ -378,7 +403,8 @@ impl Automaton {
 
     // Gives a turn, where the query runs, none of its turns is out and the queue isn't full.
     pub(crate) fn take(&mut self) -> Took
-        requires { IsSound self.old }
+        requires sound { IsSound self.old }
+        requires starts { (q : asked.Query) → look_of self.old.state ≡ view.Running q → Starts (turn_at (view_of self.old) q) }
         ensures sound { IsSound self.new }
         ensures answer { result ≡ takes (view_of self.old) }
         ensures taken { IsTrue (is_turn result) → view_of self.new ≡ taken (view_of self.old) }
@@ -418,7 +444,7 @@ impl Automaton {
         requires sound { IsSound self.old }
         requires back { IsBack self.old query gone }
         ensures sound { IsSound self.new }
-        ensures turns { Turns query gone (view_of self.old) (view_of self.new) }
+        ensures turns { TakesBack query gone (view_of self.old) (view_of self.new) }
     {
         let Gone {
             steps,

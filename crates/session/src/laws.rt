@@ -1,5 +1,6 @@
 // Laws that hold of every pengine over resolution.
 ghost use Rattle.session.specs.Laws.{KeptProgramsResolve, TurnsStartWell, ScheduleDoesntMatter, NoMoreWait, LostTurnsAreOlder};
+ghost use Rattle.session.specs.Shows.{AnswersAreThePengines};
 
 /// The schedule doesn't matter: for every list of entries that a pengine can have, its events begin the list that resolution defines for its requests, with each abort, destroy and want of memory striking at one step. It holds where the events of each query are those of resolution, as they are over a program that keeps to the sandbox ([`kept_programs_resolve`]). Where nothing runs and no request waits they are all of that list.
 pub fn schedule_doesnt_matter()
@@ -24,4 +25,10 @@ pub fn kept_programs_resolve()
 /// Over a program that keeps to the sandbox a turn starts as it is to be: the query that runs has an event to come, those before came within its steps, and it reaches nothing outside.
 pub fn turns_start_well()
     ensures { TurnsStartWell }
+{}
+
+/// What a session answers is by the pengine that it looks as: whether it has ended or is gone, which events wait and how many, the
+/// requests that wait, and the answer to a take.
+pub fn answers_are_the_pengines()
+    ensures { AnswersAreThePengines }
 {}

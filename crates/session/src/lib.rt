@@ -15,10 +15,10 @@ mod state;
 mod took;
 mod turn;
 
-pub use answers::{Given, Pulled, SendFault};
+pub use answers::{Given, Pulled, PulledMany, SendFault};
 pub use laws::{
-    kept_programs_resolve, lost_turns_are_older, no_more_wait, schedule_doesnt_matter,
-    turns_start_well,
+    answers_are_the_pengines, kept_programs_resolve, lost_turns_are_older, no_more_wait,
+    schedule_doesnt_matter, turns_start_well,
 };
 pub use session::Session;
 pub use took::Took;

@@ -1,23 +1,24 @@
-ghost use Rattle.std.specs.Prelude.{◌≡◌, ◌≢◌, ◌≤◌, [], ◌++◌, length, drop, IfOk, OnOk, OnErr, IsTrue, ◌↔◌, false, Err, Some};
+ghost use Rattle.std.specs.Prelude.{◌≡◌, ◌≢◌, ◌≤◌, ◌<◌, min, [], ◌∷◌, ◌++◌, length, drop, IfOk, OnOk, OnErr, ◌↔◌, false, Err, Some};
 ghost use Rattle.session.specs.declared.answers.SendFault.TheVariants as fault;
-ghost use Rattle.session.specs.After.{Sent, Pulled as Pull, Abort, Destroy, Taken, Given as GivenBack, Pengine, after_entry, most_requests};
-ghost use Rattle.session.specs.Answers.{is_ended, pulls, takes, is_turn, ready, last_of, gives};
-ghost use Rattle.session.specs.Views.{Ended, IsSeen, Enters, taken, spec_seen, Gone, IsTurnOf};
-ghost use Rattle.session.specs.TurnsKept.{Keeps};
-ghost use Rattle.session.specs.declared.answers.Given.TheVariants as given;
-ghost use Rattle.session.specs.Begun.{IsBegun};
+ghost use Rattle.sandbox_walk.specs.Keeping.{KeepsSandbox};
+ghost use Rattle.session.specs.After.{Sent, Pulled as Pull, Abort, Destroy, Pengine, after_entry, most_requests};
+ghost use Rattle.session.specs.Answers.{is_ended, is_gone, pulls, pulls_many, takes, is_turn, ready, last_of, gives, is_kept};
+ghost use Rattle.session.specs.Views.{Ended, IsSeen, taken, spec_seen, Gone, TurnView};
+ghost use Rattle.session.specs.Recorded.{IsRecord, IsRecorded, Lengthens, Takes, IsTaken, GivesBack};
+ghost use Rattle.session.specs.declared.took.Took.TheVariants as took;
+ghost use Rattle.session.specs.Begun.{IsBegun, first_of};
 
-use crate::answers::{Given, Pulled, SendFault};
+use crate::answers::{Given, Pulled, PulledMany, SendFault};
 use crate::automaton::{Automaton, MOST_REQUESTS, MOST_WAITING};
 use crate::state::State;
 use crate::took::Took;
 use crate::turn::Turn;
-use event_core::{Request, Settings, Spec, Waiting};
+use event_core::{Request, Spec, Waiting};
 use std::alloc::Global;
 use std::marker::Model;
 use term_core::Memory;
 
-/// One pengine (Lager and Wielemaker, TPLP 2014), whose turns run outside. Contracts see it as a view: its clauses and settings,
+/// One pengine (Lager and Wielemaker, TPLP 2014), whose turns run outside. Contracts see it as a view: its program and settings,
 /// where it stands, the requests and events that wait, and the counts of its latest query.
 #[derive(Debug, Drop)]
 pub struct Session {
@@ -34,31 +35,27 @@ impl Model for Session {
     ghost coded = { Prim.hlevel (codes, tree_code) };
 
     ghost use Rattle.session.specs.Kept.{view_of, IsSound};
+    ghost use Rattle.session.specs.Recorded.{IsRecorded};
 
     ghost view = { λ s. view_of s.automaton };
 
-    ghost invariant = { λ s. IsSound s.automaton };
+    ghost invariant = { λ s. IsSound s.automaton × IsRecorded (view_of s.automaton) };
 }
 
 impl Session {
     /// A pengine that was just made, with room for 64 requests and 66 events. Its event 0, `create`, is this answer. The first
     /// query, where there is one, is its first request.
     pub fn create(alloc: Global, spec: Spec) -> Result<Session, Memory>
-        ensures { IfOk result (IsBegun spec) }
+        requires keeps { KeepsSandbox spec.program.value }
+        ensures begun { IfOk result (IsBegun spec) }
+        ensures recorded { IfOk result (IsRecord (first_of spec.ask)) }
     {
         let Spec {
             program,
             ask,
-            chunk,
-            limit,
-            destroy,
+            settings,
             bytes: _,
         } = spec;
-        let settings = Settings {
-            chunk,
-            limit,
-            destroys: destroy,
-        };
         let mut automaton = Automaton::new(alloc, program, settings)?;
         match ask {
             None => Ok(Session { automaton }),
@@ -72,7 +69,7 @@ impl Session {
     /// Accepts a request, which is consumed when the pengine rests. It is refused where the pengine has ended, then where 64 requests
     /// wait, and then for want of memory, and the pengine is as before.
     pub fn send(&mut self, request: Request) -> Result<(), SendFault>
-        ensures sent { OnOk result (Enters (Sent request) self.old self.new) }
+        ensures sent { OnOk result (Lengthens (Sent request ∷ []) self.old self.new) }
         ensures refused { OnErr result (self.new ≡ self.old) }
         ensures ended { (result ≡ Err fault.Ended) ↔ (self.old.look ≡ Ended) }
         ensures full { (result ≡ Err fault.MailboxFull) ↔ ((self.old.look ≢ Ended) × (most_requests ≤ length self.old.mailbox)) }
@@ -92,7 +89,7 @@ impl Session {
     /// Hands out the next event, where one waits.
     pub fn pull(&mut self) -> Pulled
         ensures answer { result ≡ pulls self.old }
-        ensures pulled { self.old.queue ≢ [] → Enters Pull self.old self.new }
+        ensures pulled { self.old.queue ≢ [] → Lengthens (Pull 1 ∷ []) self.old self.new }
         ensures none { self.old.queue ≡ [] → self.new ≡ self.old }
     {
         match self.automaton.pull() {
@@ -107,10 +104,32 @@ impl Session {
         }
     }
 
+    /// Hands out the events that wait, at most `max` of them, which is from 1 to 64. The memory of their list is taken first:
+    /// for want of it the pengine is as before.
+    pub fn pull_many(&mut self, max: u32) -> Result<PulledMany, Memory>
+        requires some { 0 < max }
+        requires most { max ≤ 64 }
+        ensures answer { IfOk result (λ r. r ≡ pulls_many max self.old) }
+        ensures pulled { OnOk result (self.old.queue ≢ [] → Lengthens (Pull (min max (length self.old.queue)) ∷ []) self.old self.new) }
+        ensures none { self.old.queue ≡ [] → self.new ≡ self.old }
+        ensures refused { OnErr result (self.new ≡ self.old) }
+    {
+        match self.automaton.pull_many(max as usize)? {
+            Some(waiting) => Ok(PulledMany::Events(waiting)),
+            None => {
+                if self.ended() {
+                    Ok(PulledMany::Ended)
+                } else {
+                    Ok(PulledMany::Pending)
+                }
+            }
+        }
+    }
+
     /// Gives a turn of the query that runs, to be run outside and given back.
     pub fn take(&mut self) -> Took
         ensures answer { result ≡ takes self.old }
-        ensures taken { IsTrue (is_turn result) → (self.new ≡ taken self.old) × Enters Taken self.old self.new }
+        ensures taken { (t : TurnView) → result ≡ took.Turn t → (self.new ≡ taken self.old) × Takes self.old t self.new }
         ensures none { is_turn result ≡ false → self.new ≡ self.old }
     {
         self.automaton.take()
@@ -118,10 +137,10 @@ impl Session {
 
     /// Takes back a turn that this session gave and that has gone: `Dropped` exactly where its query was broken off since.
     pub fn give(&mut self, turn: Turn) -> Given
-        requires { IsTurnOf self.old turn }
+        requires taken { IsTaken self.old turn }
+        requires gone { (g : Gone) × (turn.gone ≡ Some g) }
         ensures answer { result ≡ gives self.old turn.number }
-        ensures kept { (g : Gone) → result ≡ given.Kept → turn.gone ≡ Some g → Keeps self.old turn g self.new }
-        ensures dropped { (g : Gone) → result ≡ given.Dropped → turn.gone ≡ Some g → Enters (GivenBack turn.number g.steps (length g.events) g.starved false) self.old self.new }
+        ensures back { (g : Gone) → turn.gone ≡ Some g → GivesBack self.old turn g (is_kept result) self.new }
     {
         self.automaton.give(turn)
     }
@@ -129,7 +148,7 @@ impl Session {
     /// Breaks off the query that runs or rests, whose turn is then dropped, and drops the requests that wait.
     /// Outside of a query no event comes.
     pub fn abort(&mut self)
-        ensures { Enters Abort self.old self.new }
+        ensures { Lengthens (Abort ∷ []) self.old self.new }
     {
         self.automaton.abort();
     }
@@ -143,11 +162,19 @@ impl Session {
         self.automaton.destroy()
     }
 
-    /// Whether the pengine has ended.
+    /// Whether the pengine has ended. Every session is one that was made over a program which keeps to the sandbox, and had calls.
     pub fn ended(&self) -> bool
-        ensures { result ≡ is_ended self.now.look }
+        ensures answer { result ≡ is_ended self.now.look }
+        ensures recorded { IsRecorded self.now }
     {
         self.automaton.has_ended()
+    }
+
+    /// Whether the pengine has ended and all its events were pulled.
+    pub fn is_gone(&self) -> bool
+        ensures { result ≡ is_gone self.now }
+    {
+        self.automaton.has_ended() && self.automaton.queue.is_empty()
     }
 
     /// Whether `take` would give a turn.

@@ -68,7 +68,7 @@ impl Gone {
 
 impl Turn {
     ghost use Rattle.session.specs.Turns.{Turned, Turns};
-    ghost use Rattle.session.specs.TurnsKept.{gone_view, part_seen, Starts, IsGone, Goes};
+    ghost use Rattle.session.specs.TurnsKept.{gone_view, part_seen, IsGone, IsGoneAt, Goes};
 
     /// The number of its query, which count from 1.
     pub fn query(&self) -> u64
@@ -79,7 +79,8 @@ impl Turn {
 
     /// Its steps, its events without `memory`, and whether it ended by want of memory; of a turn that has gone.
     pub fn counts(&self) -> (u64, u64, bool)
-        ensures { (g : view.Gone) → self.now.gone ≡ Some g → result ≡ (g.steps, length g.events, g.starved) }
+        ensures counted { (g : view.Gone) → self.now.gone ≡ Some g → result ≡ (g.steps, length g.events, g.starved) }
+        ensures made { IsGoneAt self.now self.now.gone }
     {
         match &self.gone {
             Some(gone) => (gone.steps, gone.events.len() as u64, gone.starved),
@@ -108,7 +109,7 @@ impl Turn {
     fn gone_by(&self, budget: u64) -> Gone
         requires { 0 < budget }
         ensures gone { IsGone self.now (gone_view result) }
-        ensures turned { Starts self.now → Turns (part_seen self.now) self.now.steps self.now.events budget self.now.room result.steps (length result.events) result.starved }
+        ensures turned { Turns (part_seen self.now) self.now.steps self.now.events budget self.now.room result.steps (length result.events) result.starved }
     {
         match self.run(budget) {
             Ok(gone) => gone,
@@ -124,7 +125,7 @@ impl Turn {
         requires { 0 < budget }
         ensures gone { IfOk result (λ g. IsGone self.now (gone_view g)) }
         ensures ample { IfOk result (λ g. g.starved ≡ false) }
-        ensures turned { IfOk result (λ g. Starts self.now → Turned (part_seen self.now) self.now.steps self.now.events budget self.now.room g.steps (length g.events)) }
+        ensures turned { IfOk result (λ g. Turned (part_seen self.now) self.now.steps self.now.events budget self.now.room g.steps (length g.events)) }
     {
         let requests = copies(self.alloc, &self.query.requests)?;
         let reaches = reach_of(self.steps, budget, self.settings.limit);

@@ -8,8 +8,8 @@ use Rattle.term_core.specs.Tree.{Tree, variable, integer, atom, compound, Trees,
 use Rattle.term_core.specs.Flat.{flatten, parse, first_tree, build-flatten, parse-flatten}
 use Rattle.term_core.specs.Parts.{symbol_of}
 use Rattle.term_core.proofs.Apart.{first_node, some_node}
-use Rattle.prims_tree.proofs.Cells.{IsNodes, of_term}
-use Rattle.prims_tree.proofs.Slices.{drop_front}
+use Rattle.tree_results.proofs.Cells.{IsNodes, of_term}
+use Rattle.tree_results.proofs.Slices.{drop_front}
 use Rattle.builtin_table.specs.Errors.{two_arguments}
 use Rattle.builtin_table.specs.Solutions.{carets, carets_of, behind_carets, behind_caret}
 use Rattle.solve_model.specs.Collecting.{is_caret_node}

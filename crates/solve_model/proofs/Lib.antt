@@ -9,5 +9,6 @@ pub mod Relate
 pub mod Resume
 pub mod RowLemmas
 pub mod RunLaws
+pub mod Settling
 pub mod Stepping
 pub mod Talking

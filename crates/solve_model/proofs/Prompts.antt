@@ -100,6 +100,7 @@ counted_kept w n e = record {
   at_asked = λ q u go go' h. asked_counted n w.replies q u go e h;
   same_clauses = refl;
   same_primitive = refl;
+  same_outside = refl;
 }
 
 module _ (w : World) where

@@ -6,10 +6,9 @@ use Rattle.term_core.specs.Parts.{arguments_of}
 use Rattle.term_core.specs.Substitution.{apply}
 use Rattle.term_core.specs.Unifier.{mgu}
 use Rattle.program.specs.Clauses.{Clause, clauses_of}
-use Rattle.solve_model.specs.Goals.{Row, Succeeds, Fails, Cuts, Both, Either, IfElse, Test, Differ, Call, Catch, Throw, Output, Input, Predicate, row_of, Ready, Runs, Throws, ready, with_arguments, unknown_predicate, FindAll, BagOf, SetOf}
-use Rattle.builtin_table.specs.Outside.{reaches_outside}
+use Rattle.solve_model.specs.Goals.{Row, Succeeds, Fails, Cuts, Both, Either, IfElse, Test, Differ, Call, Catch, Throw, Output, Input, Predicate, row_of, settled, Ready, Runs, Throws, ready, with_arguments, FindAll, BagOf, SetOf}
 use Rattle.builtin_table.specs.Primitives.{Outcome, Offers, Ball, Unknown, Offer}
-use Rattle.solve_model.specs.Run.{World, Bindings, Item, Goal, Commit, ExitCatch, End, Failed, Cut, Thrown, Waits, Spent, Outside, Place, Used, Ran, Runner, Branch, ends, after, at_failed, at_cut, at_condition, at_catch, cut_to, in_order, if_ready, Told, Asked, marked, one_reply, if_replied, offered, reply_offer, throws, undefined, performed, called, locally, branched, differs, recovered_by, caught, goal_step, item_step, some_left, Mark, without_answers, at_gathered, solutions, gathered, collected, found_all, all_grouped}
+use Rattle.solve_model.specs.Run.{World, Bindings, Item, Goal, Commit, ExitCatch, End, Failed, Cut, Thrown, Waits, Spent, Outside, Place, Used, Ran, Runner, Branch, ends, after, at_failed, at_cut, at_condition, at_catch, cut_to, in_order, if_ready, Told, Asked, marked, one_reply, if_replied, offered, reply_offer, undefined, performed, called, locally, branched, differs, recovered_by, caught, goal_step, item_step, some_left, Mark, without_answers, at_gathered, solutions, gathered, collected, found_all, all_grouped}
 use Rattle.builtin_table.specs.Solutions.{copies, after_copies, may_be_list, findall_offers, bagof_offers, setof_offers, behind_carets, witness, witnessed}
 
 -- what is done at an end passes on a run that stopped for want of steps or of a reply
@@ -36,6 +35,7 @@ pub record IsKept (R : Used → Ran → Ran → Type 0) (w w' : World) : Type 0 
   pub at_answers : (u : Used) (a a' : Ran) (k k' : List (ℕ × Mark) → End → Used → Ran) → R u a a' → ((ms : List (ℕ × Mark)) → PassesStops (k ms)) → ((ms : List (ℕ × Mark)) → PassesStops (k' ms)) → ((ms : List (ℕ × Mark)) (e : End) → NotWaits e → (v : Used) → R v (k ms e v) (k' ms e v)) → R u (after (without_answers a) (k a.marks)) (after (without_answers a') (k' a'.marks))
   pub same_clauses : w'.clauses ≡ w.clauses
   pub same_primitive : w'.primitive ≡ w.primitive
+  pub same_outside : w'.outside ≡ w.outside
 
 failed_passes : (f : Used → Ran) → PassesStops (at_failed f)
 failed_passes f = record { waits = λ u. refl; spent = λ u. refl }
@@ -123,21 +123,20 @@ module _ (R : Used → Ran → Ran → Type 0) (w w' : World) (kept : IsKept R w
     locally_kept t is p o u =
         kept.at_after u _ _ _ _ (related _ _ o u) (cut_passes p.level) (cut_passes p.level) (cut_kept p.level)
 
-    undefined_kept : (i : Pi) (is : List Item) (u : Used) → R u (undefined i is u) (undefined i is u)
-    undefined_kept i is u = at (reaches_outside i)
-      where
-        at : (b : Bool) → R u (elim b as (λ x. Ran) [ true ↦ ends (Outside i) u | false ↦ throws (unknown_predicate i) is u ]) (elim b as (λ x. Ran) [ true ↦ ends (Outside i) u | false ↦ throws (unknown_predicate i) is u ])
-        at true = kept.at_end (Outside i) tt u
-        at false = kept.at_end _ tt u
+    undefined_kept : (out : Bool) (i : Pi) (is : List Item) (u : Used) → R u (undefined out i is u) (undefined out i is u)
+    undefined_kept true i is u = kept.at_end (Outside i) tt u
+    undefined_kept false i is u = kept.at_end _ tt u
 
-    performed_kept : (q : Outcome) (i : Pi) (is : List Item) (p : Place) (o : Bool) (u : Used) → R u (performed r q i is p o u) (performed r' q i is p o u)
-    performed_kept (Offers rs) i is p o u = in_order_kept _ o u
-    performed_kept (Ball b) i is p o u = kept.at_end _ tt u
-    performed_kept Unknown i is p o u = undefined_kept i is u
+    performed_kept : (q : Outcome) (out : Bool) (i : Pi) (is : List Item) (p : Place) (o : Bool) (u : Used) → R u (performed r q out i is p o u) (performed r' q out i is p o u)
+    performed_kept (Offers rs) out i is p o u = in_order_kept _ o u
+    performed_kept (Ball b) out i is p o u = kept.at_end _ tt u
+    performed_kept Unknown out i is p o u = undefined_kept out i is u
 
     called_kept : (cs : List Clause) (i : Pi) (t : Tree) (is : List Item) (p : Place) (o : Bool) (u : Used) → R u (called w r cs i t is p o u) (called w' r' cs i t is p o u)
     called_kept [] i t is p o u =
-        subst (λ (f : List ℕ → List Tree → ℕ → Outcome). R u (performed r (w.primitive i.name (arguments_of (apply p.subst t)) p.next) i is p o u) (performed r' (f i.name (arguments_of (apply p.subst t)) p.next) i is p o u)) (sym kept.same_primitive) (performed_kept (w.primitive i.name (arguments_of (apply p.subst t)) p.next) i is p o u)
+        let q : Outcome = w.primitive i (arguments_of (apply p.subst t)) p.next in
+        subst (λ (f : Pi → List Tree → ℕ → Outcome). R u (performed r q (w.outside i) i is p o u) (performed r' (f i (arguments_of (apply p.subst t)) p.next) (w'.outside i) i is p o u)) (sym kept.same_primitive)
+        (subst (λ (f : Pi → Bool). R u (performed r q (w.outside i) i is p o u) (performed r' q (f i) i is p o u)) (sym kept.same_outside) (performed_kept q (w.outside i) i is p o u))
     called_kept (c ∷ cs) i t is p o u =
         kept.at_after u _ _ _ _ (in_order_kept _ o u) (cut_passes p.level) (cut_passes p.level) (cut_kept p.level)
 
@@ -214,7 +213,8 @@ module _ (R : Used → Ran → Ran → Type 0) (w w' : World) (kept : IsKept R w
 
     pub item_kept : (i : Item) (is : List Item) (p : Place) (o : Bool) (u : Used) → R u (item_step w r i is p o u) (item_step w' r' i is p o u)
     unfolding item_step
-    item_kept (Goal t l cut) is p o u = goal_kept (row_of t) l cut is p o u
+    item_kept (Goal t l cut) is p o u =
+        subst (λ (f : Pi → Bool). R u (goal_step w r (settled w.outside t (row_of t)) l cut is p o u) (goal_step w' r' (settled f t (row_of t)) l cut is p o u)) (sym kept.same_outside) (goal_kept (settled w.outside t (row_of t)) l cut is p o u)
     item_kept (Commit l cut) is p o u =
         kept.at_after u _ _ _ _ (related is p cut u) (cut_to_passes l) (cut_to_passes l) (cut_to_kept l)
     item_kept (ExitCatch l) is p o u = related is p o u

@@ -113,7 +113,7 @@ first_alternative r bs cs ds b c o u e h =
 
 -- ---- calls
 
-pub unknown_called : (w : World) (r : Runner) (cs : List Clause) (i : Pi) (t : Tree) (is : List Item) (p : Place) (o : Bool) (u : Used) → cs ≡ [] → performed r (w.primitive i.name (arguments_of (apply p.subst t)) p.next) i is p o u ≡ called w r cs i t is p o u
+pub unknown_called : (w : World) (r : Runner) (cs : List Clause) (i : Pi) (t : Tree) (is : List Item) (p : Place) (o : Bool) (u : Used) → cs ≡ [] → performed r (w.primitive i (arguments_of (apply p.subst t)) p.next) (w.outside i) i is p o u ≡ called w r cs i t is p o u
 unknown_called w r [] i t is p o u h = refl
 unknown_called w r (c ∷ cs) i t is p o u h = cc
 

@@ -10,8 +10,8 @@ use Rattle.term_core.specs.Parts.{symbol_of, arguments_of}
 use Rattle.term_core.specs.Variables.{above_all}
 use Rattle.builtin_table.specs.Errors.{one_argument, two_arguments}
 use Rattle.program.specs.Bodies.{is_body}
-use Rattle.solve_model.specs.Goals.{Row, Ready, with_arguments, ready_compound, Call, Predicate, Runs, Throws, ready, not_callable, unbound_goal, row_named, row_of, row_of_atom, row_of_one, row_of_two, row_of_three, row_of_arguments, row_of_compound, is_call}
-use Rattle.solve_model.specs.Rows.{indicator_of, is_call_of}
+use Rattle.solve_model.specs.Goals.{Row, Ready, with_arguments, ready_compound, Call, Predicate, Runs, Throws, ready, not_callable, unbound_goal, row_named, row_of, row_of_atom, row_of_one, row_of_two, row_of_three, row_of_arguments, row_of_compound, is_call, indicator_of}
+use Rattle.solve_model.specs.Rows.{is_call_of}
 
 pub other_text : (f g : List ℕ) → (f ≡ g → ⊥) → bytes_eq f g ≡ false
 other_text f g h = false_from_ne_true (bytes_eq f g) (λ e. h ((bytes_decides f g).0 e))

@@ -116,6 +116,7 @@ timed_kept w n = record {
   at_answers = λ u a a' k k' h ps ps' step. after_timed n u (without_answers a) (k a.marks) (outer_timed n u a h) (at_stop (IsTimed n a.used) (k a.marks) a.end a.used (ps a.marks) (ends_timed n Waits a.used) (λ x. step a.marks a.end x a.used));
   same_clauses = refl;
   same_primitive = refl;
+  same_outside = refl;
 }
 
 -- after one step more
@@ -279,7 +280,7 @@ module _ (S : End → Type 0) (sub : (e : End) → S e → IsStopped e) (n : ℕ
           subst (λ (x : Ran). IsLonger S n (after (without_answers x) (k x.marks)) (after (without_answers b) (k' b.marks))) (sym e) (longer_within (without_answers b) (k b.marks) (k' b.marks) (both b.marks).1)
       go (inr s) = inr (longer_further l (without_answers a) (without_answers b) (k a.marks) (k' b.marks) (outer_further a b s) (ps a.marks) (both b.marks).0)
 
-  module _ (w w' : World) (clauses : w'.clauses ≡ w.clauses) (primitives : w'.primitive ≡ w.primitive) (replies : (k : ℕ) → IsFurther S (slice_get w.replies k) (slice_get w'.replies k)) (limits : w.limit ≤ w'.limit) (spent : w.limit < w'.limit → S Spent) (limit : w.limit ≡ n) where
+  module _ (w w' : World) (clauses : w'.clauses ≡ w.clauses) (primitives : w'.primitive ≡ w.primitive) (outsides : w'.outside ≡ w.outside) (replies : (k : ℕ) → IsFurther S (slice_get w.replies k) (slice_get w'.replies k)) (limits : w.limit ≤ w'.limit) (spent : w.limit < w'.limit → S Spent) (limit : w.limit ≡ n) where
     grows_kept : (m : ℕ) → IsKept (Grows w'.limit m) w w'
     grows_kept m = record {
       at_end = λ e x u. grows_ends w'.limit m e u;
@@ -289,6 +290,7 @@ module _ (S : End → Type 0) (sub : (e : End) → S e → IsStopped e) (n : ℕ
       at_answers = λ u a b k k' h ps ps' step. grows_answers w'.limit m u a b k k' h ps ps' step;
       same_clauses = clauses;
       same_primitive = primitives;
+      same_outside = outsides;
     }
 
     goes_on : (u : Used) (b : Ran) → w.limit ≤ u.steps → u.steps < w'.limit → IsTimed w'.limit (one_more u) b → GoesOn S n (ends Spent u) b
@@ -342,7 +344,7 @@ same_run n a b (inr g) = absurd g.stopped
 -- a depth that is enough for the limit is as good as any other
 pub depth_alike : (w : World) (d d' m : ℕ) → w.limit ≤ d + m → w.limit ≤ d' + m → (is : List Item) (p : Place) (o : Bool) (u : Used) → m ≤ u.steps → run w d is p o u ≡ run w d' is p o u
 depth_alike w d d' m h h' is p o u g =
-    same_run w.limit _ _ ((run_grows_on NoEnd (λ e x. absurd x) w.limit w w refl refl (λ k. inl refl) (omega arith) (λ k. absurd (omega (arith, k))) refl d d' m h h' is p o u g).1)
+    same_run w.limit _ _ ((run_grows_on NoEnd (λ e x. absurd x) w.limit w w refl refl refl (λ k. inl refl) (omega arith) (λ k. absurd (omega (arith, k))) refl d d' m h h' is p o u g).1)
 
 -- The run of a query's limit: a step is taken, and the rest is a run again. So the depth may be forgotten.
 pub run_step : (w : World) (i : Item) (is : List Item) (p : Place) (o : Bool) (u : Used) → run w w.limit (i ∷ is) p o u ≡ taken w (run w w.limit) i is p o u
@@ -353,9 +355,9 @@ run_step w i is p o u =
 -- ---- what users hear of
 
 -- an end that isn't a failure of the query's own cut is passed on
-query_longer : (S : End → Type 0) (sub : (e : End) → S e → IsStopped e) (w w' : World) → w'.clauses ≡ w.clauses → w'.primitive ≡ w.primitive → ((k : ℕ) → IsFurther S (slice_get w.replies k) (slice_get w'.replies k)) → w.limit ≤ w'.limit → (w.limit < w'.limit → S Spent) → (g t : Tree) → IsTimed w'.limit unused (query w' g t) × IsLonger S w.limit (query w g t) (query w' g t)
+query_longer : (S : End → Type 0) (sub : (e : End) → S e → IsStopped e) (w w' : World) → w'.clauses ≡ w.clauses → w'.primitive ≡ w.primitive → w'.outside ≡ w.outside → ((k : ℕ) → IsFurther S (slice_get w.replies k) (slice_get w'.replies k)) → w.limit ≤ w'.limit → (w.limit < w'.limit → S Spent) → (g t : Tree) → IsTimed w'.limit unused (query w' g t) × IsLonger S w.limit (query w g t) (query w' g t)
 unfolding query
-query_longer S sub w w' clauses primitives replies limits spent g t = go (ready g)
+query_longer S sub w w' clauses primitives outsides replies limits spent g t = go (ready g)
   where
     go : (r : Ready) → IsTimed w'.limit unused (elim r as (λ x. Ran) [
       | Runs h ↦ after (run w' w'.limit (Goal h 1 false ∷ []) (start g t) false unused) (at_cut 1)
@@ -368,10 +370,10 @@ query_longer S sub w w' clauses primitives replies limits spent g t = go (ready 
       | Throws b ↦ ends (Thrown (numbered b) 0) unused
     ])
     go (Runs h) =
-        (grows_kept S sub w.limit w w' clauses primitives replies limits spent refl 0).at_after unused _ _ (at_cut 1) (at_cut 1)
-        (run_grows_on S sub w.limit w w' clauses primitives replies limits spent refl w.limit w'.limit 0 (omega arith) (omega arith) (Goal h 1 false ∷ []) (start g t) false unused)
+        (grows_kept S sub w.limit w w' clauses primitives outsides replies limits spent refl 0).at_after unused _ _ (at_cut 1) (at_cut 1)
+        (run_grows_on S sub w.limit w w' clauses primitives outsides replies limits spent refl w.limit w'.limit 0 (omega arith) (omega arith) (Goal h 1 false ∷ []) (start g t) false unused)
         (cut_passes 1) (cut_passes 1)
-        (cut_kept (Grows S sub w.limit w'.limit 0) w w' (grows_kept S sub w.limit w w' clauses primitives replies limits spent refl 0) 1) (omega arith)
+        (cut_kept (Grows S sub w.limit w'.limit 0) w w' (grows_kept S sub w.limit w w' clauses primitives outsides replies limits spent refl 0) 1) (omega arith)
     go (Throws b) = (ends_timed w'.limit _ unused, inl refl)
 
 -- with more replies behind the others
@@ -381,7 +383,7 @@ further_reply S (r ∷ rs) ts s zero = inl refl
 further_reply S (r ∷ rs) ts s (suc k) = further_reply S rs ts s k
 
 pub more_only_adds : MoreOnlyAdds
-more_only_adds w n ts g t = go (query_longer IsStopped (λ e x. x) w (widened n ts w) refl refl (further_reply IsStopped w.replies ts (inl refl)) (omega arith) (λ k. inr refl) g t).1
+more_only_adds w n ts g t = go (query_longer IsStopped (λ e x. x) w (widened n ts w) refl refl refl (further_reply IsStopped w.replies ts (inl refl)) (omega arith) (λ k. inr refl) g t).1
   where
     go : IsLonger IsStopped w.limit (query w g t) (query (widened n ts w) g t) → (query (widened n ts w) g t ≡ query w g t) ⊎ (IsStopped (query w g t).end × Begins (query w g t).marks (query (widened n ts w) g t).marks)
     go (inl e) = inl (sym e)
@@ -400,8 +402,8 @@ marks_within-none n (m ∷ ms) h =
 
 pub marks_stand : MarksStand
 marks_stand w n g t =
-    go (query_longer (λ e. e ≡ Spent) (λ e x. inr x) w (record w { limit = w.limit + n }) refl refl (λ k. inl refl) (omega arith) (λ k. refl) g t).1
-    (query_longer NoEnd (λ e x. absurd x) w w refl refl (λ k. inl refl) (omega arith) (λ k. absurd (omega (arith, k))) g t).0
+    go (query_longer (λ e. e ≡ Spent) (λ e x. inr x) w (record w { limit = w.limit + n }) refl refl refl (λ k. inl refl) (omega arith) (λ k. refl) g t).1
+    (query_longer NoEnd (λ e x. absurd x) w w refl refl refl (λ k. inl refl) (omega arith) (λ k. absurd (omega (arith, k))) g t).0
   where
     go : IsLonger (λ e. e ≡ Spent) w.limit (query w g t) (query (record w { limit = w.limit + n }) g t) → IsTimed w.limit unused (query w g t) → (query w g t).marks ≡ marks_within w.limit (query (record w { limit = w.limit + n }) g t).marks
     go (inl e) timed =

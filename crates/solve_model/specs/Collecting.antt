@@ -5,8 +5,8 @@ use Rattle.term_core.specs.declared.node.Node.TheVariants as node
 use Rattle.term_core.specs.Tree.{Tree}
 use Rattle.builtin_table.specs.Primitives.{Offer}
 use Rattle.builtin_table.specs.Solutions.{findall_offers, group_offers}
-use Rattle.prims_tree.specs.declared.solutions.Arrangement.{Arrangement}
-use Rattle.prims_tree.specs.Groups.{arranged}
+use Rattle.tree_lists.specs.declared.solutions.Arrangement.{Arrangement}
+use Rattle.tree_lists.specs.Groups.{arranged}
 use Rattle.solve_model.specs.declared.solutions.Collection.{Collection}
 use Rattle.solve_model.specs.declared.solutions.Collection.TheVariants as collection
 

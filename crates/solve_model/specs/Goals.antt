@@ -1,5 +1,5 @@
 -- How a goal is read: what its step is, and which terms may be run as goals.
-use Rattle.std.specs.Prelude.{ℕ, Bool, ◌&&◌, List, [], ◌∷◌, ◌++◌, length, nat_lt, if◌then◌else◌, Option, Some, None, codes, bytes_eq}
+use Rattle.std.specs.Prelude.{ℕ, Bool, true, false, ◌&&◌, List, [], ◌∷◌, ◌++◌, length, nat_lt, if◌then◌else◌, Option, Some, None, codes, bytes_eq}
 use Rattle.term_core.specs.declared.pi.Pi.{Pi}
 use Rattle.term_core.specs.Tree.{Tree, variable, integer, atom, compound, Trees, no_trees, tree, tree_list, trees_of, arity}
 use Rattle.builtin_table.specs.Errors.{one_argument, two_arguments, error_term, no_context, instantiation_error, type_error, representation_error, existence_error}
@@ -8,6 +8,13 @@ use Rattle.program.specs.Bodies.{is_body}
 -- the indicator of a predicate: its name and its number of arguments (ISO 13211-1, 3.136)
 abbrev pub indicator : List ℕ → ℕ → Pi
 indicator f n = record { name = f; arity = n }
+
+-- the predicate that a goal calls
+abbrev pub indicator_of : Tree → Pi
+indicator_of (atom f) = indicator f 0
+indicator_of (compound f ts) = indicator f (arity ts)
+indicator_of (variable n) = indicator [] 0
+indicator_of (integer z) = indicator [] 0
 
 -- The rows of the table of steps (ISO 13211-1, 7.8 and 8).
 pub data Row : Type 0 where
@@ -139,6 +146,30 @@ row_of (variable n) = Call (variable n) []
 row_of (integer z) = Call (integer z) []
 row_of (atom f) = row_of_atom f
 row_of (compound f ts) = row_of_compound f ts
+
+-- the rows that talk with the client
+abbrev pub talks : Row → Bool
+talks (Output t) = true
+talks (Input q t) = true
+talks Succeeds = false
+talks Fails = false
+talks Cuts = false
+talks (Both a b) = false
+talks (Either a b) = false
+talks (IfElse c t e) = false
+talks (Test c t e) = false
+talks (Differ a b) = false
+talks (Call g ts) = false
+talks (Catch g c r) = false
+talks (Throw t) = false
+talks (FindAll t g m) = false
+talks (BagOf t g m) = false
+talks (SetOf t g m) = false
+talks (Predicate i t) = false
+
+-- A goal's row, where these predicates reach outside: a goal of one of them that would talk is a call of it.
+unfoldable pub settled : (Pi → Bool) → Tree → Row → Row
+settled outside t r = if talks r && outside (indicator_of t) then Predicate (indicator_of t) t else r
 
 -- the errors of control have no context
 abbrev pub control_error : Tree → Tree

@@ -1,22 +1,14 @@
 -- What the code reads off a goal.
-use Rattle.std.specs.Prelude.{ℕ, Bool, true, false, not, bytes_eq, codes, nat_le, ◌&&◌, ◌==◌, List, []}
+use Rattle.std.specs.Prelude.{ℕ, Bool, true, false, not, bytes_eq, codes, nat_le, ◌&&◌, ◌==◌, List}
 use Rattle.std.specs.Ordering.{is_eq, int_cmp}
 use Rattle.term_core.specs.declared.node.Node.{Node}
 use Rattle.term_core.specs.declared.node.Node.TheVariants as node
-use Rattle.term_core.specs.declared.pi.Pi.{Pi}
-use Rattle.term_core.specs.Tree.{Tree, variable, integer, atom, compound, arity}
+use Rattle.term_core.specs.Tree.{Tree}
 use Rattle.solve_model.specs.declared.goals.Row.{Row}
 use Rattle.solve_model.specs.declared.goals.Row.TheVariants as row
 use Rattle.solve_model.specs.declared.ready.Ready.{Ready}
 use Rattle.solve_model.specs.declared.ready.Ready.TheVariants as made
 use Rattle.solve_model.specs.Goals as goals
-
--- the predicate that a goal calls
-abbrev pub indicator_of : Tree → Pi
-indicator_of (atom f) = goals.indicator f 0
-indicator_of (compound f ts) = goals.indicator f (arity ts)
-indicator_of (variable n) = goals.indicator [] 0
-indicator_of (integer z) = goals.indicator [] 0
 
 -- the row of this goal
 abbrev pub row_as : Tree → Row → goals.Row
@@ -36,7 +28,7 @@ row_as t (row.Input a b) = goals.Input a b
 row_as t (row.FindAll a b c) = goals.FindAll a b c
 row_as t (row.BagOf a b c) = goals.BagOf a b c
 row_as t (row.SetOf a b c) = goals.SetOf a b c
-row_as t row.Predicate = goals.Predicate (indicator_of t) t
+row_as t row.Predicate = goals.Predicate (goals.indicator_of t) t
 
 abbrev pub ready_as : Ready → goals.Ready
 ready_as (made.Runs t) = goals.Runs t

@@ -7,19 +7,19 @@ use Rattle.term_core.specs.Variables.{renamed, numbered, variables, first_free}
 use Rattle.term_core.specs.Substitution.{apply}
 use Rattle.term_core.specs.Unifier.{mgu}
 use Rattle.program.specs.Clauses.{Clause, clauses_of}
-use Rattle.solve_model.specs.Goals.{Row, Succeeds, Fails, Cuts, Both, Either, IfElse, Test, Differ, Call, Catch, Throw, Output, Input, Predicate, row_of, true_goal, fail_goal, Ready, Runs, Throws, ready, with_arguments, unbound_goal, unknown_predicate, FindAll, BagOf, SetOf, not_list}
+use Rattle.solve_model.specs.Goals.{Row, Succeeds, Fails, Cuts, Both, Either, IfElse, Test, Differ, Call, Catch, Throw, Output, Input, Predicate, row_of, settled, true_goal, fail_goal, Ready, Runs, Throws, ready, with_arguments, unbound_goal, unknown_predicate, FindAll, BagOf, SetOf, not_list}
 use Rattle.builtin_table.specs.Primitives.{Offer, Outcome, Offers, Ball, Unknown, copy}
-use Rattle.builtin_table.specs.Outside.{reaches_outside}
 use Rattle.builtin_table.specs.Solutions.{copies, after_copies, may_be_list, findall_offers, bagof_offers, setof_offers, behind_carets, witness, witnessed}
 
 -- a substitution: for each variable bound, its number and its term
 abbrev pub Bindings : Type 0
 Bindings = List (ℕ × Tree)
 
--- what stays the same in a run: the clauses in the order of the text, the primitives by name over arguments and the next variable, the replies to prompts, and the limit of steps
+-- what stays the same in a run: the clauses in the order of the text, the primitives by indicator over arguments and the next variable, which predicates reach outside, the replies to prompts, and the limit of steps
 pub record World : Type 0 where
   pub clauses : List Clause
-  pub primitive : List ℕ → List Tree → ℕ → Outcome
+  pub primitive : Pi → List Tree → ℕ → Outcome
+  pub outside : Pi → Bool
   pub replies : List Tree
   pub limit : ℕ
 
@@ -182,19 +182,19 @@ offered (r ∷ rs) is p =
     ]
 
 -- a predicate that has no clause and is no primitive: it reaches outside, or it is unknown
-abbrev pub undefined : Pi → List Item → Used → Ran
-undefined i is u = elim (reaches_outside i) [ true ↦ ends (Outside i) u | false ↦ throws (unknown_predicate i) is u ]
+abbrev pub undefined : Bool → Pi → List Item → Used → Ran
+undefined outside i is u = elim outside [ true ↦ ends (Outside i) u | false ↦ throws (unknown_predicate i) is u ]
 
--- a primitive by what it gives
-abbrev pub performed : Runner → Outcome → Pi → List Item → Place → Bool → Used → Ran
-performed run (Offers rs) i is p o u = in_order run (offered rs is p) o u
-performed run (Ball b) i is p o u = throws b is u
-performed run Unknown i is p o u = undefined i is u
+-- a primitive by what it gives, and by whether it reaches outside where it is none
+abbrev pub performed : Runner → Outcome → Bool → Pi → List Item → Place → Bool → Used → Ran
+performed run (Offers rs) outside i is p o u = in_order run (offered rs is p) o u
+performed run (Ball b) outside i is p o u = throws b is u
+performed run Unknown outside i is p o u = undefined outside i is u
 
 -- a call of a predicate by its clauses, in which a cut is local, or of a primitive where it has no clauses
 abbrev pub called : World → Runner → List Clause → Pi → Tree → List Item → Place → Bool → Used → Ran
 called w run [] i t is p o u =
-    performed run (w.primitive i.name (arguments_of (apply p.subst t)) p.next) i is p o u
+    performed run (w.primitive i (arguments_of (apply p.subst t)) p.next) (w.outside i) i is p o u
 called w run (c ∷ cs) i t is p o u = after (in_order run (entered (c ∷ cs) t is p o) o u) (at_cut p.level)
 
 -- a goal as by `call`: its cut is local
@@ -336,7 +336,7 @@ goal_step w run (SetOf t g m) l cut is p o u =
 goal_step w run (Predicate i t) l cut is p o u = called w run (clauses_of i w.clauses) i t is p o u
 
 unfoldable pub item_step : World → Runner → Item → List Item → Place → Bool → Used → Ran
-item_step w run (Goal t l cut) is p o u = goal_step w run (row_of t) l cut is p o u
+item_step w run (Goal t l cut) is p o u = goal_step w run (settled w.outside t (row_of t)) l cut is p o u
 item_step w run (Commit l cut) is p o u = after (run is p cut u) (cut_to l)
 item_step w run (ExitCatch l) is p o u = run is p o u
 

@@ -7,13 +7,20 @@ use Rattle.solve_model.specs.declared.answers.TraceMark.{TraceMark}
 use Rattle.solve_model.specs.declared.answers.TraceMark.TheVariants as shown
 use Rattle.solve_model.specs.declared.answers.TraceEnd.{TraceEnd}
 use Rattle.solve_model.specs.declared.answers.TraceEnd.TheVariants as ended
-use Rattle.program.specs.Clauses.{Clause}
-use Rattle.builtin_table.specs.Primitives.{primitive}
+use Rattle.builtin_table.specs.Outside.{outside_in}
+use Rattle.builtin_table.specs.Taken.{primitive_in}
+use Rattle.program.specs.Loaded.{Loaded}
 use Rattle.solve_model.specs.Run as run
 
--- the world of a program's clauses and the primitives
-abbrev pub world_of : List Clause → (replies : List Tree) → (limit : ℕ) → run.World
-world_of cs ts n = record { clauses = cs; primitive = primitive; replies = ts; limit = n }
+-- the world of a program: its clauses, and the primitives of its application
+abbrev pub world_of : Loaded → (replies : List Tree) → (limit : ℕ) → run.World
+world_of l ts n = record {
+  clauses = l.clauses;
+  primitive = primitive_in l.app;
+  outside = outside_in l.app;
+  replies = ts;
+  limit = n;
+}
 
 -- an answer is the template under its substitution
 abbrev pub mark_shown : Tree → run.Mark → TraceMark

@@ -3,11 +3,14 @@ ghost use Rattle.std.specs.Prelude.{◌≡◌, ℕ, ◌∷◌, List, IfOk};
 ghost use Rattle.term_core.specs.Tree.{Tree};
 ghost use Rattle.term_core.specs.Parts.{arguments_of};
 ghost use Rattle.term_core.specs.Substitution.{apply};
-ghost use Rattle.builtin_table.specs.Primitives.{primitive};
+ghost use Rattle.builtin_table.specs.Outside.{outside_in};
+ghost use Rattle.builtin_table.specs.Taken.{primitive_in};
 ghost use Rattle.program.specs.Clauses.{clauses_of};
 ghost use Rattle.program.specs.Kept.{clause_of};
 ghost use Rattle.solve_model.specs.Run.{World, Used, body_branch as body_branch_of, called as called_run, if_ready, in_order, locally as locally_run, offered, performed, throws as throws_run, undefined as undefined_run};
-ghost use Rattle.solve_model.specs.Rows.{indicator_of, ready_as};
+ghost use Rattle.prims_tree.specs.Outcomes.{outcome_of};
+ghost use Rattle.solve_model.specs.Goals.{indicator_of};
+ghost use Rattle.solve_model.specs.Rows.{ready_as};
 ghost use Rattle.solve_model.specs.Search.{place_of, items_of, branch_of, chosen, runs, run_of, taken_results, Leaves};
 ghost use Rattle.solve_model.specs.Trace.{world_of};
 
@@ -19,11 +22,11 @@ use crate::matching::next_match;
 use crate::ready::{Ready, unknown_predicate};
 use crate::results::{Found, Results, next_result};
 use crate::search::{Branch, Choice, End, Frame, Goal, Item, Now, Place, Scope, Stack};
-use builtin_table::reaches_outside;
+use builtin_table::{reaches_outside, takes};
 use prims_tree::{Offers, Outcome};
 use program::{Clause, Program};
 use std::alloc::Global;
-use term_core::{Memory, Pi, Term};
+use term_core::{App, Memory, Pi, Term};
 
 // A ball is thrown before these items: a copy of it.
 pub(crate) fn throw(alloc: Global, ball: &Term, items: &[Item]) -> Result<Now, Memory>
@@ -232,19 +235,39 @@ pub(crate) fn take_results(
 }
 
 // A predicate that has no clause and is no primitive: it reaches outside, or it is unknown.
-fn undefined(alloc: Global, pi: &Pi, items: &[Item]) -> Result<Now, Memory>
-    ensures { IfOk result (λ n. (w : World) (u : Used) → run_of w n u ≡ undefined_run pi.now (items_of items.now) u) }
+fn undefined(alloc: Global, outside: bool, pi: &Pi, items: &[Item]) -> Result<Now, Memory>
+    ensures { IfOk result (λ n. (w : World) (u : Used) → run_of w n u ≡ undefined_run outside pi.now (items_of items.now) u) }
 {
-    if reaches_outside(pi) {
+    if outside {
         return Ok(Now::Ends(End::Outside(pi.copied(alloc)?)));
     }
     let now = throw(alloc, &unknown_predicate(alloc, pi)?, items)?;
     Ok(now)
 }
 
+// What the primitive of an application gives for these arguments.
+#[tactic(auto, unfolding(builtin_table::specs::Taken::primitive_in))]
+fn primitive(
+    alloc: Global,
+    app: App,
+    pi: &Pi,
+    arguments: &[Term],
+    next: u64,
+) -> Result<Outcome, Memory>
+    ensures { IfOk result (λ o. outcome_of o ≡ primitive_in app pi.now arguments.now next) }
+{
+    if takes(app, pi) {
+        let outcome = prims_tree::call(alloc, pi.name.as_str(), arguments, next)?;
+        Ok(outcome)
+    } else {
+        Ok(Outcome::Unknown)
+    }
+}
+
 // A goal that no clause is for: a primitive, or an undefined predicate.
 fn perform(
     alloc: Global,
+    app: App,
     pi: &Pi,
     goal: &Term,
     rest: Branch,
@@ -252,12 +275,12 @@ fn perform(
     stack: &mut Stack,
 ) -> Result<Now, Memory>
     ensures { IfOk result (λ n. (w : World) (u : Used) →
-        Leaves w stack.old stack.new n u (performed (runs w) (primitive pi.now.name (arguments_of (apply rest.place.subst goal.now)) rest.place.next) pi.now (items_of rest.items.items) (place_of rest.place) more u)) }
+        Leaves w stack.old stack.new n u (performed (runs w) (primitive_in app pi.now (arguments_of (apply rest.place.subst goal.now)) rest.place.next) (outside_in app pi.now) pi.now (items_of rest.items.items) (place_of rest.place) more u)) }
 {
     let goal = goal.apply(alloc, rest.place.subst.subst())?;
     stack.work.spend(&goal)?;
     let arguments = goal.arguments(alloc)?;
-    match prims_tree::call(alloc, pi.name.as_str(), &arguments, rest.place.next)? {
+    match primitive(alloc, app, pi, &arguments, rest.place.next)? {
         Outcome::Offers(offers) => {
             let now = take_results(alloc, offers, rest, more, stack)?;
             Ok(now)
@@ -267,7 +290,7 @@ fn perform(
             Ok(now)
         }
         Outcome::Unknown => {
-            let now = undefined(alloc, pi, &rest.items)?;
+            let now = undefined(alloc, reaches_outside(app, pi), pi, &rest.items)?;
             Ok(now)
         }
     }
@@ -284,11 +307,11 @@ pub(crate) fn call(
 ) -> Result<Now, Memory>
     ensures { IfOk result (λ n. (ts : List Tree) (limit : ℕ) (u : Used) →
         let w = world_of program.now ts limit in
-        Leaves w stack.old stack.new n u (called_run w (runs w) (clauses_of (indicator_of goal) program.now) (indicator_of goal) goal (items_of rest.items.items) (place_of rest.place) more u)) }
+        Leaves w stack.old stack.new n u (called_run w (runs w) (clauses_of (indicator_of goal) program.now.clauses) (indicator_of goal) goal (items_of rest.items.items) (place_of rest.place) more u)) }
 {
     let pi = indicator(alloc, &goal)?;
     if program.clauses(&pi).is_empty() {
-        let now = perform(alloc, &pi, &goal, rest, more, stack)?;
+        let now = perform(alloc, program.app(), &pi, &goal, rest, more, stack)?;
         return Ok(now);
     }
     let Branch { items, place } = rest;

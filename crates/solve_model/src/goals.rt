@@ -2,11 +2,14 @@
 ghost use Rattle.std.specs.Prelude.{◌≡◌, [], ◌∷◌, length, false, IfOk};
 ghost use Rattle.term_core.specs.Tree.{Tree, atom, compound, trees_of};
 ghost use Rattle.term_core.specs.Parts.{symbol_of, arguments_of};
+ghost use Rattle.builtin_table.specs.Outside.{outside_in};
 ghost use Rattle.builtin_table.specs.Errors.{one_argument as one_argument_of, two_arguments as two_arguments_of};
-ghost use Rattle.solve_model.specs.Goals.{arrow, counterexample as counterexample_tree, disjunction as disjunction_row, row_of, row_of_atom as row_of_name, row_of_one as row_of_one_tree, row_of_two as row_of_two_trees, row_of_three as row_of_three_trees, true_goal, fail_goal};
-ghost use Rattle.solve_model.specs.Rows.{indicator_of, is_arrow_symbol, is_call_of, row_as};
+ghost use Rattle.solve_model.specs.Goals.{arrow, counterexample as counterexample_tree, disjunction as disjunction_row, indicator_of, settled, talks as talks_row, row_of, row_of_atom as row_of_name, row_of_one as row_of_one_tree, row_of_two as row_of_two_trees, row_of_three as row_of_three_trees, true_goal, fail_goal};
+ghost use Rattle.solve_model.specs.Rows.{is_arrow_symbol, is_call_of, row_as};
 
 use crate::arguments::{first_and_others, one_argument, three_arguments, two_arguments};
+use builtin_table::reaches_outside;
+use program::Program;
 use std::alloc::Global;
 use term_core::{Memory, Name, Node, Pi, Term};
 
@@ -32,7 +35,30 @@ pub(crate) enum Row {
     Predicate,
 }
 
-pub(crate) fn row_of_goal(alloc: Global, goal: &Term) -> Result<Row, Memory>
+// The row of a goal of a program: one that would talk where its application says that this reaches outside is a call.
+pub(crate) fn row_in(alloc: Global, program: &Program, goal: &Term) -> Result<Row, Memory>
+    ensures { IfOk result (λ row. row_as goal.now row ≡ settled (outside_in program.now.app) goal.now (row_of goal.now)) }
+{
+    let row = row_of_goal(alloc, goal)?;
+    if !talks(&row) {
+        return Ok(row);
+    }
+    let pi = indicator(alloc, goal)?;
+    if reaches_outside(program.app(), &pi) {
+        Ok(Row::Predicate)
+    } else {
+        Ok(row)
+    }
+}
+
+fn talks(row: &Row) -> bool
+    ensures { (goal : Tree) → result ≡ talks_row (row_as goal row.now) }
+{
+    matches!(row, Row::Output(_) | Row::Input(_, _))
+}
+
+// The row of a goal in the table of steps.
+fn row_of_goal(alloc: Global, goal: &Term) -> Result<Row, Memory>
     ensures { IfOk result (λ row. row_as goal.now row ≡ row_of goal.now) }
 {
     match goal.symbol() {

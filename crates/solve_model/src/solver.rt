@@ -16,7 +16,7 @@ use program::Program;
 use std::alloc::Global;
 use term_core::{List, Memory, Subst, Term};
 
-/// What a query gives by depth-first resolution (ISO 13211-1, 7.7): its goal is run as by `call/1` over the program's clauses, with these replies to its prompts, for at most `n` steps.
+/// What a query gives by depth-first resolution (ISO 13211-1, 7.7): its goal is run as by `call/1` over the program's clauses and the primitives of its application, with these replies to its prompts, for at most `n` steps.
 ///
 /// The answers show the template; variables of goal and template with one number are one.
 /// Besides what the terms' own calls refuse, `Memory` comes where the query would write more than `MAX_WORK` nodes.

@@ -1,7 +1,7 @@
 // The steps of a search: what is left after an item, and after the end of a run.
 ghost use Rattle.std.specs.Prelude.{◌≡◌, ℕ, List, IfOk};
 ghost use Rattle.term_core.specs.Tree.{Tree};
-ghost use Rattle.solve_model.specs.Goals.{row_of};
+ghost use Rattle.solve_model.specs.Goals.{row_of, settled};
 ghost use Rattle.solve_model.specs.Run.{World, Used, at_catch, at_condition, goal_step as goal_step_run, item_step as item_step_run};
 ghost use Rattle.solve_model.specs.Search.{place_of, items_of, item_of, end_of, recovers, run_of, runs, runs_branch, at_frame, Leaves};
 ghost use Rattle.solve_model.specs.Trace.{world_of};
@@ -10,7 +10,7 @@ use crate::calls::{call, choose, take_result};
 use crate::catches::{call_with, catch, recover, throw_term};
 use crate::collecting::{find_all, gathered_step, group_all};
 use crate::control::{branch_on, cut, differ, either, test};
-use crate::goals::{Row, row_of_goal};
+use crate::goals::{Row, row_in};
 use crate::items::with_goal;
 use crate::search::{Branch, Catcher, Context, End, Frame, Goal, Item, Now, Stack};
 use crate::talk::{input, output};
@@ -30,11 +30,11 @@ fn goal_step(
 ) -> Result<Now, Memory>
     ensures { IfOk result (λ n. (ts : List Tree) (limit : ℕ) (u : Used) →
         let w = world_of program.now ts limit in
-        Leaves w stack.old stack.new n u (goal_step_run w (runs w) (row_of goal.term) goal.scope.level goal.scope.more (items_of rest.items.items) (place_of rest.place) more u)) }
+        Leaves w stack.old stack.new n u (goal_step_run w (runs w) (settled w.outside goal.term (row_of goal.term)) goal.scope.level goal.scope.more (items_of rest.items.items) (place_of rest.place) more u)) }
 {
     let Goal { term, scope } = goal;
     stack.work.spend(&term)?;
-    match row_of_goal(alloc, &term)? {
+    match row_in(alloc, program, &term)? {
         Row::Succeeds => Ok(Now::Runs(rest, more)),
         Row::Fails => Ok(Now::Ends(End::Failed)),
         Row::Cuts => {

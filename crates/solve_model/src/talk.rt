@@ -1,11 +1,11 @@
 // What a query tells its client, and what it asks.
-ghost use Rattle.std.specs.Prelude.{◌≡◌, ℕ, ◌+◌, [], ◌∷◌, List as list, length, option_map, IfOk, IfSome};
+ghost use Rattle.std.specs.Prelude.{◌≡◌, ℕ, ◌+◌, [], ◌∷◌, length, option_map, IfOk, IfSome};
 ghost use Rattle.term_core.specs.Tree.{Tree};
 ghost use Rattle.term_core.specs.Substitution.{apply};
 ghost use Rattle.term_core.specs.Unifier.{mgu};
 ghost use Rattle.term_core.specs.Variables.{variables};
 ghost use Rattle.builtin_table.specs.Primitives.{copy};
-ghost use Rattle.program.specs.Clauses.{Clause};
+ghost use Rattle.program.specs.Loaded.{Loaded};
 ghost use Rattle.solve_model.specs.Run.{World, Used, Told, in_order, marked, offered, prompted, reply_offer};
 ghost use Rattle.solve_model.specs.Search.{items_of, place_of, runs, whole, Leaves};
 ghost use Rattle.solve_model.specs.Trace.{world_of};
@@ -83,8 +83,8 @@ pub(crate) fn ask(
     question: Question,
     search: &mut Search,
 ) -> Result<Now, Memory>
-    ensures { IfOk result (λ n. (cs : list Clause) (limit : ℕ) (template : Tree) →
-        let w = world_of cs replies.now limit in
+    ensures { IfOk result (λ n. (loaded : Loaded) (limit : ℕ) (template : Tree) →
+        let w = world_of loaded replies.now limit in
         whole w template n search.new ≡ whole w template (Now.Asks question) search.old) }
 {
     let Question {

@@ -6,6 +6,7 @@ ghost use Rattle.store.specs.Cells.{IsCell, tree_of};
 ghost use Rattle.tree_offers.specs.Outcomes.{outcome_of, IsPlain, OutcomeHasPlaces};
 
 use crate::offers::Offers;
+use prims_tree::{PlacedOutcome, placed_call};
 use std::alloc::Global;
 use store::{Cell, Store, Taken};
 use term_core::{MAX_NODES, Memory, Term};
@@ -32,12 +33,10 @@ pub fn call(alloc: Global, store: &Store, name: &str, args: &[Cell]) -> Result<O
     ensures places { IfOk result (OutcomeHasPlaces (length args.now)) }
 {
     let terms = taken(alloc, store, args)?;
-    match prims_tree::call(alloc, name, &terms, 0)? {
-        prims_tree::Outcome::Offers(results) => {
-            Ok(Outcome::Offers(Offers::new(alloc, terms, results)))
-        }
-        prims_tree::Outcome::Ball(ball) => Ok(Outcome::Ball(ball)),
-        prims_tree::Outcome::Unknown => unreachable!(),
+    match placed_call(alloc, name, &terms, 0)? {
+        PlacedOutcome::Offers(results) => Ok(Outcome::Offers(Offers::new(alloc, results))),
+        PlacedOutcome::Ball(ball) => Ok(Outcome::Ball(ball)),
+        PlacedOutcome::Unknown => unreachable!(),
     }
 }
 

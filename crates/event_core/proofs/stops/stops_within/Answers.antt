@@ -5,6 +5,7 @@ use Rattle.event_core.specs.declared.stop.Stop.{Stop}
 use Rattle.event_core.specs.Texts.{quoted}
 use Rattle.event_core.specs.Fits.{fits}
 use Rattle.event_core.specs.Stops.{at_end, end_stop, stops_of, cut_at, is_spent}
+use Rattle.event_core.specs.Names.{answer_term}
 use Rattle.event_core.specs.Parts.{replies}
 use Rattle.event_core.specs.Reaching.{IsBegun}
 use Rattle.event_core.specs.Standing.{stops_for}
@@ -13,7 +14,7 @@ use Rattle.event_core.proofs.stops.stops_within.Goals as goal
 use Rattle.event_core.proofs.stops.stops_within.Goals.{else-goes_on-via-then-goes_on+else-trace-steps, else-goes_on-via-else-goes_on}
 
 abbrev told : goal.In_ok-stops → ℕ → List (ℕ × Stop)
-told c n = told_stops c.args.program.now (replies c.args.requests.now) c.args.ask.now.goal c.args.ask.now.template (fits quoted) c.is_cut_off-goes_on.result (ran c.args.program.now (replies c.args.requests.now) c.args.ask.now.goal c.args.ask.now.template (fits quoted) n)
+told c n = told_stops c.args.program.now (replies c.args.requests.now) c.args.ask.now.goal (answer_term c.args.settings.names c.args.ask.now) (fits quoted) c.is_cut_off-goes_on.result (ran c.args.program.now (replies c.args.requests.now) c.args.ask.now.goal (answer_term c.args.settings.names c.args.ask.now) (fits quoted) n)
 
 stops_are : (c : goal.In_ok-stops) → c.in_ok-stops.stops.items ≡ told c c.min-limit.result
 stops_are c =
@@ -37,17 +38,17 @@ made_all c is =
 pub returns-clause-whole : goal.returns-clause-whole
 returns-clause-whole c = λ isnt.
     stops_are c
-    ∙ whole c.args.program.now (replies c.args.requests.now) c.args.ask.now.goal c.args.ask.now.template (fits quoted) c.args.steps c.args.settings.limit c.min-limit.result c.min-limit.ensures c.is_cut_off-goes_on.result
+    ∙ whole c.args.program.now (replies c.args.requests.now) c.args.ask.now.goal (answer_term c.args.settings.names c.args.ask.now) (fits quoted) c.args.steps c.args.settings.limit c.min-limit.result c.min-limit.ensures c.is_cut_off-goes_on.result
     (cut_is c ∙ ap (λ (x : Trace). nat_lt c.args.steps c.args.settings.limit && is_spent x.end) c.in_ok-trace.ensures) isnt
 
 pub returns-clause-begun : goal.returns-clause-begun
 returns-clause-begun c = λ is.
     subst (λ ps. IsBegun c.args.steps ps (stops_for c.args.program.now c.args.settings c.args.ask.now c.args.requests.now)) (sym (stops_are c))
-    (begun c.args.program.now (replies c.args.requests.now) c.args.ask.now.goal c.args.ask.now.template (fits quoted) c.args.steps c.args.settings.limit c.min-limit.result c.min-limit.ensures c.is_cut_off-goes_on.result
+    (begun c.args.program.now (replies c.args.requests.now) c.args.ask.now.goal (answer_term c.args.settings.names c.args.ask.now) (fits quoted) c.args.steps c.args.settings.limit c.min-limit.result c.min-limit.ensures c.is_cut_off-goes_on.result
     (cut_is c ∙ ap (λ (x : Trace). nat_lt c.args.steps c.args.settings.limit && is_spent x.end) c.in_ok-trace.ensures) is (subst (λ (x : Trace). c.args.steps ≤ x.steps) c.in_ok-trace.ensures (made_all c is)))
 
 pub returns-clause-in_time : goal.returns-clause-in_time
 returns-clause-in_time c =
     subst (λ (ps : List (ℕ × Stop)). All (λ s. s.0 ≤ min c.args.steps c.args.settings.limit) ps) (sym (stops_are c))
     (subst (λ k. All (λ s. s.0 ≤ k) (told c c.min-limit.result)) c.min-limit.ensures
-    (in_time c.args.program.now (replies c.args.requests.now) c.args.ask.now.goal c.args.ask.now.template (fits quoted) c.min-limit.result c.is_cut_off-goes_on.result))
+    (in_time c.args.program.now (replies c.args.requests.now) c.args.ask.now.goal (answer_term c.args.settings.names c.args.ask.now) (fits quoted) c.min-limit.result c.is_cut_off-goes_on.result))

@@ -8,4 +8,4 @@ use Rattle.library_check.proofs.clauses.clauses_keep.Given as goal
 
 abbrev pub invariant-loop-clause : goal.invariant-loop-clause
 invariant-loop-clause l =
-    list_all clause_keeps (map (λ (c : Bor kept.Clause). clause_of c.now) (drop l.clause-index l.clauses)) ≡ list_all clause_keeps (map (λ (c : Bor kept.Clause). clause_of c.now) l.clauses)
+    list_all (clause_keeps l.table) (map (λ (c : Bor kept.Clause). clause_of c.now) (drop l.clause-index l.clauses)) ≡ list_all (clause_keeps l.table) (map (λ (c : Bor kept.Clause). clause_of c.now) l.clauses)

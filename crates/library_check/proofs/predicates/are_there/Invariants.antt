@@ -5,4 +5,4 @@ use Rattle.library_check.specs.Tables.{indicators_in}
 use Rattle.library_check.proofs.predicates.are_there.Given as goal
 
 abbrev pub invariant-loop-name : goal.invariant-loop-name
-invariant-loop-name l = list_all (is_there l.program) (indicators_in (drop l.name-index l.names)) ≡ list_all (is_there l.program) (indicators_in l.names)
+invariant-loop-name l = list_all (is_there l.program.clauses) (indicators_in (drop l.name-index l.names)) ≡ list_all (is_there l.program.clauses) (indicators_in l.names)

@@ -10,7 +10,7 @@ returns-in-Err-clause-refused c = λ _. not_text c.args.input.now c.in-Err.ensur
 pub returns-in_err-program_in-in-Ok-clause-refused : goal.returns-in_err-program_in-in-Ok-clause-refused
 returns-in_err-program_in-in-Ok-clause-refused c =
     let p = err_from_is_err_and c.from_residual.result c.from_residual.ensures.1 in
-    rw (p.1, p.2) (source_refused c.args.input.now c.in-Ok.text.now c.in-Ok.ensures.cases.0 c.in-Ok.ensures.cases.1 c.in_err-program_in-in-Ok.field-0.0 c.in_err-program_in-in-Ok.ensures.refused)
+    rw (p.1, p.2) (source_refused c.args.library.now.app c.args.input.now c.in-Ok.text.now c.requires c.in-Ok.ensures.cases.0 c.in-Ok.ensures.cases.1 c.in_err-program_in-in-Ok.field-0.0 c.in_err-program_in-in-Ok.ensures.refused)
 
 pub returns-in_ok-program_in-in-Ok-clause-program : goal.returns-in_ok-program_in-in-Ok-clause-program
-returns-in_ok-program_in-in-Ok-clause-program c = source_read c.args.input.now c.in-Ok.text.now c.in-Ok.ensures.cases.0 c.in-Ok.ensures.cases.1 _ c.in_ok-program_in-in-Ok.ensures.program
+returns-in_ok-program_in-in-Ok-clause-program c = source_read c.args.library.now.app c.args.input.now c.in-Ok.text.now c.requires c.in-Ok.ensures.cases.0 c.in-Ok.ensures.cases.1 _ c.in_ok-program_in-in-Ok.ensures.program

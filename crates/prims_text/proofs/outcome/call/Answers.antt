@@ -1,4 +1,4 @@
-use Rattle.std.proofs.Common.{◌≡◌, ℕ, List, map, ap, sym, subst, ◌∙◌}
+use Rattle.std.proofs.Common.{ℕ, List, map, ap, sym, subst, ◌∙◌}
 use Rattle.std.proofs.lemmas.List.{length-map}
 use Rattle.store.specs.Cells.{tree_of}
 use Rattle.tree_offers.specs.Outcomes.{IsPlain}

@@ -7,4 +7,4 @@ use Rattle.sandbox_walk.proofs.texts.all_shown.Given as goal
 
 abbrev pub invariant-loop-clause : goal.invariant-loop-clause
 invariant-loop-clause l =
-    l.all.items ≡ in_goal l.table l.goal ++ flat_map (in_clause l.table) (filter (reads l.table l.program (has l.reached)) (map (λ c. clause_of c.now) (take l.clause-index l.clause-items)))
+    l.all.items ≡ in_goal l.table l.goal ++ flat_map (in_clause l.table) (filter (reads l.table l.program.clauses (has l.reached)) (map (λ c. clause_of c.now) (take l.clause-index l.clause-items)))

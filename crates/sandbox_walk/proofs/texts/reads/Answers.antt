@@ -20,7 +20,7 @@ and_false a b r h e = rw h e
 
 pub returns : goal.returns
 returns c =
-    of_some c.args.table.now c.args.program.now (has c.args.reached.now) (clause_of c.args.clause.now) c.in-Some.pi c.if-has.result (sym c.in_ok-pi.ensures ∙ c.in-Some.is)
+    of_some c.args.table.now c.args.program.now.clauses (has c.args.reached.now) (clause_of c.args.clause.now) c.in-Some.pi c.if-has.result (sym c.in_ok-pi.ensures ∙ c.in-Some.is)
     (elim c.if-has.branch [
       | then-has w ↦ and_true _ _ _ (sym c.has.ensures ∙ w.if-has.true) (w.result-is ∙ w.enters.ensures)
       | else-has w ↦ and_false _ _ _ (sym c.has.ensures ∙ w.if-has.false) (w.result-is ∙ w.if-has.false)

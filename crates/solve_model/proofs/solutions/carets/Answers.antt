@@ -4,7 +4,7 @@ use Rattle.term_core.specs.Flat.{flatten, parse, parse-flatten}
 use Rattle.term_core.specs.Preorder.{AreTermNodes}
 use Rattle.term_core.proofs.Preorder.{AreTermNodes-drop}
 use Rattle.builtin_table.specs.Solutions.{carets, behind_carets}
-use Rattle.prims_tree.proofs.Cells.{IsNodes, of_term, all_nodes}
+use Rattle.tree_results.proofs.Cells.{IsNodes, of_term, all_nodes}
 use Rattle.solve_model.proofs.Carets.{IsCaret, caret_at, head_is, tail_is, tail_nodes, carets_more, behind_more, carets_end, behind_end}
 use Rattle.solve_model.proofs.solutions.carets.Goals as goal
 

@@ -1,7 +1,7 @@
 use Rattle.std.proofs.Common.{◌≡◌, ◌++◌, length}
 use Rattle.term_core.specs.Flat.{parse}
 use Rattle.builtin_table.specs.Solutions.{carets, behind_carets}
-use Rattle.prims_tree.proofs.Cells.{IsNodes}
+use Rattle.tree_results.proofs.Cells.{IsNodes}
 use Rattle.solve_model.proofs.solutions.carets.Given as goal
 
 abbrev pub invariant-loop-parts : goal.invariant-loop-parts

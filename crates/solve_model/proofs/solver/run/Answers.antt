@@ -1,7 +1,7 @@
 use Rattle.std.proofs.Common.{arith, ◌∙◌}
 use Rattle.solve_model.specs.Search.{end_of, used_of}
 use Rattle.solve_model.specs.Trace.{world_of}
-use Rattle.prims_tree.proofs.Slices.{nothing_kept}
+use Rattle.tree_results.proofs.Slices.{nothing_kept}
 use Rattle.solve_model.proofs.Resume.{over, popped}
 use Rattle.solve_model.proofs.solver.run.Goals.{in-Runs+in_ok-now-in-Runs, in-Tells+in_ok-now-in-Tells, in-Asks+in_ok-now-in-Asks, in-Ends+in-Some+in_ok-now-in-Some}
 use Rattle.solve_model.proofs.solver.run.Goals as goal

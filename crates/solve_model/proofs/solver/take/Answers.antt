@@ -2,7 +2,7 @@ use Rattle.std.proofs.Common.{◌+◌, ap, arith, ◌∙◌}
 use Rattle.solve_model.specs.Run.{Failed, ends}
 use Rattle.solve_model.specs.Search.{items_of, item_of, place_of, resumed, traced_after, used_of}
 use Rattle.solve_model.specs.Trace.{world_of}
-use Rattle.prims_tree.proofs.Slices.{nothing_kept}
+use Rattle.tree_results.proofs.Slices.{nothing_kept}
 use Rattle.solve_model.proofs.Resume.{answered, spent, stepped, items_pushed}
 use Rattle.solve_model.proofs.solver.take.Goals as goal
 

@@ -1,7 +1,7 @@
 use Rattle.std.proofs.Common.{arith, ap, length, List, ℕ}
 use Rattle.term_core.specs.Tree.{Tree, greatest}
 use Rattle.term_core.specs.Variables.{occurrences}
-use Rattle.prims_tree.proofs.NewVariables.{greatest-numbered}
+use Rattle.tree_results.proofs.NewVariables.{greatest-numbered}
 use Rattle.solve_model.proofs.talk.unified_reply.Goals as goal
 
 pub rename-requires : goal.rename-requires

@@ -1,22 +1,19 @@
-use Rattle.std.proofs.Common.{◌≡◌, ◌∙◌, ap, rules, [], ◌∷◌}
-use Rattle.event_core.specs.declared.event.Event.TheVariants.{Create}
-use Rattle.event_core.specs.Full.{Free}
-use Rattle.event_core.specs.Pengines.{Standing}
-use Rattle.event_core.specs.Standing.{spec_of}
+use Rattle.std.proofs.Common.{◌≡◌, rules, false, List, Some}
 use Rattle.request_text.specs.Kept.{script_read}
-use Rattle.request_text.specs.Lines.{lines_left}
-use Rattle.request_text.proofs.Printed.{lines_left-script}
+use Rattle.request_text.specs.Lines.{script_lines}
+use Rattle.session.specs.Resting.{IsLed}
+use Rattle.pengines.specs.Printed.{left}
+use Rattle.pengines.proofs.Told.{begun_printed}
 use Rattle.pengines.proofs.printing.Printing.new.Goals as goal
+
+pub invariant_of-result : goal.invariant_of-result
+invariant_of-result c =
+    let script = script_read c.args.script in
+    let all : c.from.result.items ≡ script.lines = search rules in
+    (begun_printed script c.in_ok-session.session c.from.result.items c.in_ok-session.ensures.begun.program c.in_ok-session.ensures.begun.settings c.requires c.in_ok-session.ensures.recorded all).0
 
 pub returns : goal.returns
 returns c =
     let script = script_read c.args.script in
-    let sent = c.from.result.items in
-    let made : Standing = record { clauses = script.program; settings = script.settings; place = Free } in
-    let waiting : c.push_back.new.self.items ≡ Create ∷ [] = search rules in
-    let all : sent ≡ script.lines = search rules in
-    let standing : c.new-2.result ≡ made = search rules in
-    ap (λ (p : Standing). lines_left (spec_of p.clauses p.settings) c.push_back.new.self.items sent p.place) standing
-    ∙ ap (λ es. lines_left (spec_of made.clauses made.settings) es sent Free) waiting
-    ∙ ap (λ ss. lines_left (spec_of made.clauses made.settings) (Create ∷ []) ss Free) all
-    ∙ lines_left-script script
+    let all : c.from.result.items ≡ script.lines = search rules in
+    (begun_printed script c.in_ok-session.session c.from.result.items c.in_ok-session.ensures.begun.program c.in_ok-session.ensures.begun.settings c.requires c.in_ok-session.ensures.recorded all).1

@@ -28,7 +28,7 @@ returns-else-stops-clause-sound c =
     let a : Automaton = c.args.self.now in
     let e : c.rest.new.self ≡ record (says (event.Protocol c.kind.result) a) { state = rests c.args.rest c.args.query } = c.rest.ensures ∙ ap (λ (z : Automaton). record z { state = rests c.args.rest c.args.query }) c.emit-else-stops.ensures in
     subst IsSound (sym e) (rests_sound c.args.rest c.args.query (says (event.Protocol c.kind.result) a) (says_fair (event.Protocol c.kind.result) a c.requires.sound (omega (arith, c.requires.room)))
-    (said_room a (event.Protocol c.kind.result) c.requires.room) (omega (arith, c.requires.counted)) c.requires.clauses)
+    (said_room a (event.Protocol c.kind.result) c.requires.room) (omega (arith, c.requires.counted)) c.requires.program)
 
 pub returns-else-stops-clause-does : goal.returns-else-stops-clause-does
 returns-else-stops-clause-does c =

@@ -7,7 +7,7 @@ use Rattle.session.specs.declared.turn.Gone as kept_turn
 use Rattle.session.specs.declared.turn.Turn.TheInside.{Inside}
 use Rattle.session.specs.Views.{Gone, TurnView, View, IsPresent}
 use Rattle.session.specs.TurnsKept.{gone_view, gone_of, turn_view, IsGoneAt, Keeps}
-use Rattle.session.specs.Kept.{look_of, view_of, Turns}
+use Rattle.session.specs.Kept.{look_of, view_of, TakesBack}
 use Rattle.session.proofs.Keeping.{keeps}
 use Rattle.session.proofs.Seen.{Settles, dropped_does}
 use Rattle.session.proofs.automaton.Automaton.give.Goals as goal
@@ -30,11 +30,11 @@ none_gone o g n e = no (ap gone_of (sym n) ∙ e)
     no h = cc
 
 -- the turn that is back, of the query that is out
-module _ (a : Automaton) (t : Inside) (room further : ℕ) (present : IsPresent (view_of a) (turn_view t) room further) (known : IsGoneAt (turn_view t) (gone_of t.gone)) (b : View) (k : kept_turn.Gone) (some : t.gone ≡ Some k) (v : View) (turns : Turns t.query k (view_of a) v) (settles : Settles v b) where
+module _ (a : Automaton) (t : Inside) (room further : ℕ) (present : IsPresent (view_of a) (turn_view t) room further) (known : IsGoneAt (turn_view t) (gone_of t.gone)) (b : View) (k : kept_turn.Gone) (some : t.gone ≡ Some k) (v : View) (turns : TakesBack t.query k (view_of a) v) (settles : Settles v b) where
   kept_by : (g : Gone) → gone_of t.gone ≡ Some g → Keeps (view_of a) (turn_view t) g b
   kept_by g e =
       subst (λ z. Keeps (view_of a) (turn_view t) z b) (inside_some (gone_view k) g (ap gone_of (sym some) ∙ e))
-      (keeps (view_of a) (turn_view t) t.query k (subst (λ o. IsGoneAt (turn_view t) (gone_of o)) some known) present.clauses present.settings present.events refl v b turns settles)
+      (keeps (view_of a) (turn_view t) t.query k (subst (λ o. IsGoneAt (turn_view t) (gone_of o)) some known) present.program present.settings present.events refl v b turns settles)
 
 present_at : (c : goal.Joined-drop) (room further : ℕ) → c.args.self.now.state ≡ Out room further → IsPresent (view_of c.args.self.now) (turn_view c.turn.inside) room further
 present_at c room further is =

@@ -6,7 +6,7 @@ use Rattle.event_core.specs.declared.rest.Rest.TheVariants as rest
 use Rattle.session.specs.declared.automaton.Automaton.{Automaton}
 use Rattle.session.specs.declared.state.State.TheVariants as at
 use Rattle.session.specs.declared.turn.Gone.{Gone}
-use Rattle.session.specs.Kept.{view_of, IsSound, Turns, MayWait, says, closed}
+use Rattle.session.specs.Kept.{view_of, IsSound, TakesBack, MayWait, says, closed}
 use Rattle.session.proofs.Seen.{advanced, advanced_room, advanced_fair, advanced_count, running_sound, rests_sound, closed_sound, said_most, fair_more, starved_turns, runs_on, rests_more, rests_prompting, over}
 use Rattle.session.proofs.automaton.Automaton.keep.Goals as goal
 
@@ -51,46 +51,46 @@ pub returns-then-starved-clause-turns : goal.returns-then-starved-clause-turns
 returns-then-starved-clause-turns c =
     let e : c.wait.new.self ≡ advanced c.args.gone c.args.self.now = waited c.args.self.now c.args.gone c.len.result c.wait.new.self c.len.ensures c.wait.ensures in
     let k : c.end.new.self ≡ closed c.args.self.now.settings.destroys (says event.Memory (advanced c.args.gone c.args.self.now)) = c.end.ensures ∙ ap (λ (z : Automaton). closed z.settings.destroys z) (c.emit.ensures ∙ ap (λ (z : Automaton). says event.Memory z) e) in
-    subst (λ (z : Automaton). Turns c.args.query c.args.gone (view_of c.args.self.now) (view_of z)) (sym k) (starved_turns c.args.self.now c.args.query c.args.gone c.if-starved.true)
+    subst (λ (z : Automaton). TakesBack c.args.query c.args.gone (view_of c.args.self.now) (view_of z)) (sym k) (starved_turns c.args.self.now c.args.query c.args.gone c.if-starved.true)
 
 pub returns-in-None-clause-sound : goal.returns-in-None-clause-sound
 returns-in-None-clause-sound c =
     let e : c.wait.new.self ≡ advanced c.args.gone c.args.self.now = waited c.args.self.now c.args.gone c.len.result c.wait.new.self c.len.ensures c.wait.ensures in
     let r : length (advanced c.args.gone c.args.self.now).queue.items ≤ 64 = advanced_room c.args.self.now c.args.query c.args.gone c.requires.sound c.requires.back in
     let k : record c.wait.new.self { state = at.Running c.args.query } ≡ record (advanced c.args.gone c.args.self.now) { state = at.Running c.args.query } = ap (λ (z : Automaton). record z { state = at.Running c.args.query }) e in
-    subst IsSound (sym k) (running_sound c.args.query (advanced c.args.gone c.args.self.now) (advanced_fair c.args.self.now c.args.query c.args.gone c.requires.sound c.requires.back) r (advanced_count c.args.self.now c.args.query c.args.gone c.requires.sound c.requires.back) c.requires.back.clauses)
+    subst IsSound (sym k) (running_sound c.args.query (advanced c.args.gone c.args.self.now) (advanced_fair c.args.self.now c.args.query c.args.gone c.requires.sound c.requires.back) r (advanced_count c.args.self.now c.args.query c.args.gone c.requires.sound c.requires.back) c.requires.back.program)
 
 pub returns-in-None-clause-turns : goal.returns-in-None-clause-turns
 returns-in-None-clause-turns c =
     let e : c.wait.new.self ≡ advanced c.args.gone c.args.self.now = waited c.args.self.now c.args.gone c.len.result c.wait.new.self c.len.ensures c.wait.ensures in
     let k : record c.wait.new.self { state = at.Running c.args.query } ≡ record (advanced c.args.gone c.args.self.now) { state = at.Running c.args.query } = ap (λ (z : Automaton). record z { state = at.Running c.args.query }) e in
-    subst (λ (z : Automaton). Turns c.args.query c.args.gone (view_of c.args.self.now) (view_of z)) (sym k) (runs_on c.args.self.now c.args.query c.args.gone c.if-starved.false c.in-None.is)
+    subst (λ (z : Automaton). TakesBack c.args.query c.args.gone (view_of c.args.self.now) (view_of z)) (sym k) (runs_on c.args.self.now c.args.query c.args.gone c.if-starved.false c.in-None.is)
 
 pub returns-in-Some-More-clause-sound : goal.returns-in-Some-More-clause-sound
 returns-in-Some-More-clause-sound c =
     let e : c.wait.new.self ≡ advanced c.args.gone c.args.self.now = waited c.args.self.now c.args.gone c.len.result c.wait.new.self c.len.ensures c.wait.ensures in
     let r : length (advanced c.args.gone c.args.self.now).queue.items ≤ 64 = advanced_room c.args.self.now c.args.query c.args.gone c.requires.sound c.requires.back in
     let k : record c.wait.new.self { state = at.More c.args.query } ≡ record (advanced c.args.gone c.args.self.now) { state = at.More c.args.query } = ap (λ (z : Automaton). record z { state = at.More c.args.query }) e in
-    subst IsSound (sym k) (rests_sound rest.More c.args.query (advanced c.args.gone c.args.self.now) (advanced_fair c.args.self.now c.args.query c.args.gone c.requires.sound c.requires.back) r (advanced_count c.args.self.now c.args.query c.args.gone c.requires.sound c.requires.back) c.requires.back.clauses)
+    subst IsSound (sym k) (rests_sound rest.More c.args.query (advanced c.args.gone c.args.self.now) (advanced_fair c.args.self.now c.args.query c.args.gone c.requires.sound c.requires.back) r (advanced_count c.args.self.now c.args.query c.args.gone c.requires.sound c.requires.back) c.requires.back.program)
 
 pub returns-in-Some-More-clause-turns : goal.returns-in-Some-More-clause-turns
 returns-in-Some-More-clause-turns c =
     let e : c.wait.new.self ≡ advanced c.args.gone c.args.self.now = waited c.args.self.now c.args.gone c.len.result c.wait.new.self c.len.ensures c.wait.ensures in
     let k : record c.wait.new.self { state = at.More c.args.query } ≡ record (advanced c.args.gone c.args.self.now) { state = at.More c.args.query } = ap (λ (z : Automaton). record z { state = at.More c.args.query }) e in
-    subst (λ (z : Automaton). Turns c.args.query c.args.gone (view_of c.args.self.now) (view_of z)) (sym k) (rests_more c.args.self.now c.args.query c.args.gone c.if-starved.false (tie c.args.gone.rest c.in-Some-More.field-0 rest.More c.in-Some-More.is (rw c.in-Some-More.is at c.in-Some-More.field-0-is)))
+    subst (λ (z : Automaton). TakesBack c.args.query c.args.gone (view_of c.args.self.now) (view_of z)) (sym k) (rests_more c.args.self.now c.args.query c.args.gone c.if-starved.false (tie c.args.gone.rest c.in-Some-More.field-0 rest.More c.in-Some-More.is (rw c.in-Some-More.is at c.in-Some-More.field-0-is)))
 
 pub returns-in-Some-Prompting-clause-sound : goal.returns-in-Some-Prompting-clause-sound
 returns-in-Some-Prompting-clause-sound c =
     let e : c.wait.new.self ≡ advanced c.args.gone c.args.self.now = waited c.args.self.now c.args.gone c.len.result c.wait.new.self c.len.ensures c.wait.ensures in
     let r : length (advanced c.args.gone c.args.self.now).queue.items ≤ 64 = advanced_room c.args.self.now c.args.query c.args.gone c.requires.sound c.requires.back in
     let k : record c.wait.new.self { state = at.Prompting c.args.query } ≡ record (advanced c.args.gone c.args.self.now) { state = at.Prompting c.args.query } = ap (λ (z : Automaton). record z { state = at.Prompting c.args.query }) e in
-    subst IsSound (sym k) (rests_sound rest.Prompting c.args.query (advanced c.args.gone c.args.self.now) (advanced_fair c.args.self.now c.args.query c.args.gone c.requires.sound c.requires.back) r (advanced_count c.args.self.now c.args.query c.args.gone c.requires.sound c.requires.back) c.requires.back.clauses)
+    subst IsSound (sym k) (rests_sound rest.Prompting c.args.query (advanced c.args.gone c.args.self.now) (advanced_fair c.args.self.now c.args.query c.args.gone c.requires.sound c.requires.back) r (advanced_count c.args.self.now c.args.query c.args.gone c.requires.sound c.requires.back) c.requires.back.program)
 
 pub returns-in-Some-Prompting-clause-turns : goal.returns-in-Some-Prompting-clause-turns
 returns-in-Some-Prompting-clause-turns c =
     let e : c.wait.new.self ≡ advanced c.args.gone c.args.self.now = waited c.args.self.now c.args.gone c.len.result c.wait.new.self c.len.ensures c.wait.ensures in
     let k : record c.wait.new.self { state = at.Prompting c.args.query } ≡ record (advanced c.args.gone c.args.self.now) { state = at.Prompting c.args.query } = ap (λ (z : Automaton). record z { state = at.Prompting c.args.query }) e in
-    subst (λ (z : Automaton). Turns c.args.query c.args.gone (view_of c.args.self.now) (view_of z)) (sym k) (rests_prompting c.args.self.now c.args.query c.args.gone c.if-starved.false (tie c.args.gone.rest c.in-Some-Prompting.field-0 rest.Prompting c.in-Some-Prompting.is (rw c.in-Some-Prompting.is at c.in-Some-Prompting.field-0-is)))
+    subst (λ (z : Automaton). TakesBack c.args.query c.args.gone (view_of c.args.self.now) (view_of z)) (sym k) (rests_prompting c.args.self.now c.args.query c.args.gone c.if-starved.false (tie c.args.gone.rest c.in-Some-Prompting.field-0 rest.Prompting c.in-Some-Prompting.is (rw c.in-Some-Prompting.is at c.in-Some-Prompting.field-0-is)))
 
 pub returns-in-Some-Over-clause-sound : goal.returns-in-Some-Over-clause-sound
 returns-in-Some-Over-clause-sound c =
@@ -102,4 +102,4 @@ pub returns-in-Some-Over-clause-turns : goal.returns-in-Some-Over-clause-turns
 returns-in-Some-Over-clause-turns c =
     let e : c.wait.new.self ≡ advanced c.args.gone c.args.self.now = waited c.args.self.now c.args.gone c.len.result c.wait.new.self c.len.ensures c.wait.ensures in
     let k : c.end-in-Some-Over.new.self ≡ closed c.args.self.now.settings.destroys (advanced c.args.gone c.args.self.now) = c.end-in-Some-Over.ensures ∙ ap (λ (z : Automaton). closed z.settings.destroys z) e in
-    subst (λ (z : Automaton). Turns c.args.query c.args.gone (view_of c.args.self.now) (view_of z)) (sym k) (over c.args.self.now c.args.query c.args.gone c.if-starved.false (tie c.args.gone.rest c.in-Some-Over.field-0 rest.Over c.in-Some-Over.is (rw c.in-Some-Over.is at c.in-Some-Over.field-0-is)))
+    subst (λ (z : Automaton). TakesBack c.args.query c.args.gone (view_of c.args.self.now) (view_of z)) (sym k) (over c.args.self.now c.args.query c.args.gone c.if-starved.false (tie c.args.gone.rest c.in-Some-Over.field-0 rest.Over c.in-Some-Over.is (rw c.in-Some-Over.is at c.in-Some-Over.field-0-is)))

@@ -1,13 +1,12 @@
-use Rattle.std.proofs.Common.{◌≡◌, sym, subst, true}
-use Rattle.session.specs.After.{Taken}
-use Rattle.session.specs.Answers.{is_turn, takes}
-use Rattle.session.specs.Views.{View, Enters, taken}
 use Rattle.session.specs.Kept.{view_of}
-use Rattle.session.proofs.Seen.{taken_enters}
+use Rattle.session.proofs.Recording.{starts_well, take_back, take_goes_on}
 use Rattle.session.proofs.session.Session.take.Goals as goal
 
+pub take-requires-clause-starts : goal.take-requires-clause-starts
+take-requires-clause-starts c = λ q e. starts_well (view_of c.self.inside.automaton) c.self.invariant.1 q e
+
+pub invariant_of-self : goal.invariant_of-self
+invariant_of-self c = (c.take.ensures.sound, take_goes_on c.self.inside.automaton c.take.new.self c.take.result c.take.ensures.answer c.take.ensures.taken c.take.ensures.none c.self.invariant.1)
+
 pub returns-clause-taken : goal.returns-clause-taken
-returns-clause-taken c = λ h.
-    let v : view_of c.take.new.self ≡ taken c.args.self.now = rw (← c.self.view_is) (c.take.ensures.taken h) in
-    let t : takes c.args.self.now ≡ c.take.result = rw (← c.self.view_is) (sym c.take.ensures.answer) in
-    (v, subst (λ (w : View). Enters Taken c.args.self.now w) (sym v) (taken_enters c.args.self.now (subst (λ a. is_turn a ≡ true) (sym t) h)))
+returns-clause-taken c = rw (← c.self.view_is) (λ t e. take_back c.self.inside.automaton c.take.new.self c.take.result c.take.ensures.answer c.take.ensures.taken c.self.invariant.1 t e)

@@ -20,7 +20,7 @@ returns c =
       steps = refl;
       events = told_is;
       turned = c.gone_by-gone.ensures.turned;
-      moves = λ s.
+      moves =
           moves (part_seen c.args.self.now) c.args.self.now.steps c.args.self.now.events c.args.budget c.args.self.now.room gone c.gone_by-gone.result.steps (c.len.result + c.from.result)
-          refl told_is (c.gone_by-gone.ensures.turned s);
+          refl told_is c.gone_by-gone.ensures.turned;
     }

@@ -1,5 +1,0 @@
-use Rattle.library_check.proofs.Loading.{sound}
-use Rattle.library_check.proofs.laws.checks_are_sound.Goals as goal
-
-pub returns : goal.returns
-returns c = sound

@@ -1,6 +1,0 @@
-use Rattle.std.proofs.Common.{◌≡◌, map, take}
-use Rattle.builtin_table.specs.Texts.{character_term}
-use Rattle.prims_tree.proofs.characters.character_terms.Given as goal
-
-abbrev pub invariant-loop-character : goal.invariant-loop-character
-invariant-loop-character l = l.terms.items ≡ map (character_term l.spelling) (take l.character-index l.character-items)

@@ -1,7 +1,0 @@
-use Rattle.std.proofs.Common.{◌≡◌, drop}
-use Rattle.builtin_table.specs.Texts.{joined}
-use Rattle.prims_tree.proofs.Joined.{after}
-use Rattle.prims_tree.proofs.characters.joined.Given as goal
-
-abbrev pub invariant-loop-term : goal.invariant-loop-term
-invariant-loop-term l = after l.characters (joined l.spelling (drop l.term-index l.terms)) ≡ joined l.spelling l.terms

@@ -1,6 +1,0 @@
-use Rattle.std.proofs.Common.{◌≡◌, map, take}
-use Rattle.term_core.specs.Tree.{variable}
-use Rattle.prims_tree.proofs.copies.variable_terms.Given as goal
-
-abbrev pub invariant-loop-number : goal.invariant-loop-number
-invariant-loop-number l = l.variables.items ≡ map variable (take l.number-index l.numbers)

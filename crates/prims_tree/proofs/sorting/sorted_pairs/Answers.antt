@@ -1,9 +1,0 @@
-use Rattle.std.proofs.Common.{◌∙◌, List, ap, map}
-use Rattle.prims_tree.specs.declared.keyed.Keyed.{Keyed}
-use Rattle.prims_tree.proofs.Keys.{sorted_by_keys}
-use Rattle.prims_tree.proofs.sorting.sorted_pairs.Goals as goal
-
-pub returns : goal.returns
-returns c =
-    c.in_ok-terms.ensures ∙ ap (λ (ks : List Keyed). map (λ (k : Keyed). k.term) ks) c.deref.ensures.value
-    ∙ sorted_by_keys c.args.terms.now c.in_ok-items.items.items c.sort.new.self.items c.in_ok-items.ensures c.in_ok-sort.ensures.sorted c.sort.ensures.stable

@@ -1,6 +1,0 @@
-use Rattle.std.proofs.Common.{◌≡◌, map, take}
-use Rattle.prims_tree.specs.Keys.{keyed}
-use Rattle.prims_tree.proofs.sorting.with_keys.Given as goal
-
-abbrev pub invariant-loop-term : goal.invariant-loop-term
-invariant-loop-term l = l.items.items ≡ map keyed (take l.term-index l.terms)

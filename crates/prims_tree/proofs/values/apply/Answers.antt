@@ -1,6 +1,0 @@
-use Rattle.std.proofs.Common.{◌∙◌}
-use Rattle.prims_tree.proofs.TreeValues.{other_applied}
-use Rattle.prims_tree.proofs.values.apply.Goals as goal
-
-pub returns-in_ok-value : goal.returns-in_ok-value
-returns-in_ok-value c = c.in_ok-value.ensures ∙ other_applied c.args.name.now c.args.args.now c.if-args-eq1.false c.if-args-eq2.false

@@ -1,0 +1,6 @@
+pub mod Paths
+pub mod Params
+pub mod Asked
+pub mod Creations
+pub mod Refusals
+pub mod Routing

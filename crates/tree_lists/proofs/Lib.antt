@@ -1,0 +1,3 @@
+pub mod ForArguments
+pub mod Grouping
+pub mod Keys

@@ -1,0 +1,3 @@
+pub mod Joined
+pub mod NextPart
+pub mod Placing
